@@ -1,0 +1,4 @@
+pub mod Scans
+pub mod Admitting
+pub mod Counts
+pub mod Highest

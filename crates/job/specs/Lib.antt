@@ -1,0 +1,10 @@
+pub mod Lists
+pub mod Results
+pub mod Plain
+pub mod Fixed
+pub mod Records
+pub mod Wires
+pub mod Wiring
+pub mod Admitted
+pub mod Preview
+pub mod Refusals

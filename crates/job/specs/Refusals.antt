@@ -1,0 +1,26 @@
+-- The numbers of refusals.
+use Prim.Native.Nat.{ℕ}
+use Rattle.job.specs.declared.fault.FieldFault.{FieldFault}
+use Rattle.job.specs.declared.fault.FieldFault.the-variants.{NoNumber, AboveRange, UnknownLetter, TooManyPoints}
+use Rattle.job.specs.declared.fault.JobFault.{JobFault}
+use Rattle.job.specs.declared.fault.JobFault.the-variants.{Field, PointTwice}
+use Rattle.job.specs.declared.fault.PreviewFault.{PreviewFault}
+use Rattle.job.specs.declared.fault.PreviewFault.the-variants.{WrongLength, Candidate}
+use Rattle.job.specs.declared.refusal.Refusal.{Refusal}
+
+-- the reason of a refused field
+abbrev pub reason-of : FieldFault → ℕ
+reason-of NoNumber = 1
+reason-of (AboveRange top) = 2
+reason-of UnknownLetter = 3
+reason-of TooManyPoints = 4
+
+-- a refusal that has only a number
+abbrev pub plain-refusal : ℕ → Refusal
+plain-refusal n = record { number = n; line = 0; field = 0; reason = 0 }
+
+-- a preview's refusals have no line and no field
+abbrev pub preview-refusal : PreviewFault → Refusal
+preview-refusal WrongLength = plain-refusal 13
+preview-refusal (Candidate (Field e)) = record { number = 4; line = 0; field = 0; reason = reason-of e }
+preview-refusal (Candidate PointTwice) = plain-refusal 5

@@ -1,0 +1,39 @@
+ghost use mathlib.Core.Path.{_≡_};
+ghost use Rattle.job.specs.Refusals.{reason-of, preview-refusal};
+use crate::fault::FieldFault;
+use crate::fault::JobFault;
+use crate::fault::PreviewFault;
+
+// A refusal by its numbers, as an installer meets it.
+#[derive(Clone, Copy, PartialEq, Eq, Debug)]
+pub struct Refusal {
+    pub number: u8,
+    pub line: usize,
+    pub field: usize,
+    pub reason: u8,
+}
+
+impl FieldFault {
+    pub fn reason(self) -> u8
+        ensures { λ r. ⌜ r ≡ reason-of self ⌝ }
+    {
+        match self {
+            FieldFault::NoNumber => 1,
+            FieldFault::AboveRange(_) => 2,
+            FieldFault::UnknownLetter => 3,
+            FieldFault::TooManyPoints => 4,
+        }
+    }
+}
+
+impl PreviewFault {
+    pub fn refusal(self) -> Refusal
+        ensures { λ r. ⌜ r ≡ preview-refusal self ⌝ }
+    {
+        match self {
+            PreviewFault::WrongLength => Refusal { number: 13, line: 0, field: 0, reason: 0 },
+            PreviewFault::Candidate(JobFault::Field(fault)) => Refusal { number: 4, line: 0, field: 0, reason: fault.reason() },
+            PreviewFault::Candidate(JobFault::PointTwice) => Refusal { number: 5, line: 0, field: 0, reason: 0 },
+        }
+    }
+}

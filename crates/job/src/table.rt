@@ -1,0 +1,10 @@
+use crate::fixed::FixedList;
+use crate::record::JobRecord;
+
+mod calls;
+
+// A job table: at most 64 job records, numbered from 1 in their order.
+#[derive(Drop)]
+pub struct JobTable {
+    jobs: FixedList<JobRecord, 64>,
+}

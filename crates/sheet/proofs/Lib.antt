@@ -1,0 +1,5 @@
+pub mod Steps
+pub mod Numbers
+pub mod Gathered
+pub mod Putting
+pub mod Lines

@@ -1,0 +1,18 @@
+use mathlib.Core.Path.{_≡_, refl, ap, _∙_}
+use mathlib.Core.List.{[], _∷_}
+use mathlib.Core.Bool.{false, cond}
+use lib.ListN.{drop, length, take}
+use Rattle.std.proofs.shelf.Lists.{take-rest}
+use Rattle.spelling.specs.Texts.{all-of, cut}
+use Rattle.sheet.proofs.Steps.{piece-ends, piece-last, next-more, next-last}
+use Rattle.sheet.proofs.reader.Reader.piece.Needs as need
+
+pub returns-in-Some : need.returns-in-Some
+returns-in-Some c =
+    next-more (c .args .self .now .done) (c .if-self .left)
+    (piece-ends (c .args .separator) (c .args .self .now .bytes .now) (c .args .self .now .place) (c .in-Some .end) (c .in-Some .ensures tt) .0)
+
+pub returns-in-None : need.returns-in-None
+returns-in-None c =
+    next-last (c .args .self .now .done) (c .if-self .left) (take-rest (c .args .self .now .bytes .now) (c .args .self .now .place))
+    (piece-last (c .args .separator) (c .args .self .now .bytes .now) (c .args .self .now .place) (c .in-None .ensures tt))

@@ -1,0 +1,34 @@
+-- What a reading leaves: in a list, in a record, in the tables.
+use Prim.Native.Nat.{ℕ}
+use mathlib.Core.Path.{_≡_}
+use mathlib.Core.List.{List, [], _∷_, _++_}
+use Rattle.std.specs.Results.{Cases}
+use Rattle.std.specs.declared.result.Result.{Result}
+use Rattle.std.specs.declared.result.Result.the-variants.{Ok, Err}
+use Rattle.job.specs.declared.fixed.FixedList.{FixedList}
+use Rattle.job.specs.declared.wire.Wire.{Wire}
+use Rattle.job.specs.Fixed.{list-of}
+use Rattle.job.specs.Plain.{Job}
+use Rattle.spelling.specs.declared.fault.SheetFault.{SheetFault}
+use Rattle.spelling.specs.Sheet.{Tables, read}
+
+-- the list that was to be read, or the same fault
+abbrev pub Gathers : {T E : Type 0} {N : ℕ} → Result (List T) E → Result (FixedList T N) E → Type 0
+Gathers a r = Cases r (λ l. a ≡ Ok (list-of l)) (λ e. a ≡ Err e)
+
+-- an element more, if one was read
+abbrev pub Adds : {T E : Type 0} → Result T E → List T → List T → Type 0
+Adds (Ok x) was is = is ≡ was ++ (x ∷ [])
+Adds (Err e) was is = ⊥
+
+-- what was read stands behind what was there; a fault changes nothing
+abbrev pub Takes : {T E : Type 0} → Result T E → List T → Result (Unit {0}) E → List T → Type 0
+Takes a was r is = Cases r (λ _. Adds a was is) (λ e. (a ≡ Err e) × (is ≡ was))
+
+-- the tables that were to be read, or the same fault
+abbrev pub Leaves : Result Tables SheetFault → Result (Unit {0}) SheetFault → List Job → List Wire → Type 0
+Leaves a r js ws = Cases r (λ _. a ≡ Ok (record { jobs = js; wires = ws })) (λ e. a ≡ Err e)
+
+-- what reading a sheet answers and leaves: the tables that it says, or its first fault and no tables
+abbrev pub Read : List ℕ → Result (Unit {0}) SheetFault → List Job → List Wire → Type 0
+Read bytes r js ws = Cases r (λ _. read bytes ≡ Ok (record { jobs = js; wires = ws })) (λ e. (read bytes ≡ Err e) × (js ≡ []) × (ws ≡ []))

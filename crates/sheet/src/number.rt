@@ -1,0 +1,33 @@
+ghost use mathlib.Core.Path.{_≡_};
+ghost use Rattle.spelling.specs.Fields.{number as number-of};
+use job::fault::FieldFault;
+
+// A number of at most `top`, in base-ten digits without leading zeros.
+pub fn number(text: &[u8], top: u32) -> Result<u32, FieldFault>
+    ensures { λ r. ⌜ r ≡ number-of top (now (text .entry)) ⌝ }
+{
+    let most = top as u64;
+    let mut n: u64 = 0;
+    for b in text {
+        if *b < b'0' {
+            return Err(FieldFault::NoNumber);
+        }
+        if *b > b'9' {
+            return Err(FieldFault::NoNumber);
+        }
+        // once above the top it stays there, so that no text is too long
+        if n <= most {
+            n = n * 10 + (*b - b'0') as u64;
+        }
+    }
+    if text.len() == 0 {
+        return Err(FieldFault::NoNumber);
+    }
+    if text.len() > 1 && text[0] == b'0' {
+        return Err(FieldFault::NoNumber);
+    }
+    if n > most {
+        return Err(FieldFault::AboveRange(top));
+    }
+    Ok(n as u32)
+}

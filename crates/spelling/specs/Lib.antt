@@ -1,0 +1,9 @@
+pub mod Texts
+pub mod Fields
+pub mod Faults
+pub mod Lines
+pub mod Sheet
+pub mod Spelling
+pub mod Checks
+pub mod Laws
+pub mod Examples

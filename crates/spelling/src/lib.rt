@@ -1,0 +1,4 @@
+// The commissioning sheet as a format: columns, faults and their numbers, and the laws of reading.
+pub mod column;
+pub mod fault;
+pub mod refusal;
