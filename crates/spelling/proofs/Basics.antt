@@ -2,30 +2,33 @@
 use Prim.Native.Nat.{ℕ, _<_}
 use mathlib.Core.Path.{_≡_, refl, _∙_}
 use mathlib.Core.List.{List, [], _∷_, _++_, map}
-use mathlib.Core.Bool.{Bool, true, false, cond, _&&_, false≢true}
+use mathlib.Core.Bool.{Bool, true, false, false≢true}
 use native.Mathlib.Omega.{arith}
 use lib.Dec.{eqb}
 use lib.ListN.{length}
 use Rattle.std.proofs.shelf.Tests.{eqb-true, eq-eqb, and-parts, or-parts}
 use Rattle.std.specs.shelf.Lists.{All}
+use Rattle.std.specs.declared.option.Option.{Option}
+use Rattle.std.specs.declared.option.Option.the-variants.{Some, None}
 use Rattle.std.specs.declared.result.Result.{Result}
 use Rattle.std.specs.declared.result.Result.the-variants.{Ok, Err}
 use Rattle.job.specs.Lists.{has}
 use Rattle.job.specs.Results.{and-then, or-else, given}
 use Rattle.job.proofs.Admitting.{by-bool}
+use Rattle.spelling.specs.Checks.{lines-then}
 use Rattle.spelling.specs.Spelling.{join, ended}
 use Rattle.spelling.specs.Texts.{Pieces, last, more, onto, cut, all-of, same, each}
 
--- ## Results
+-- ## Results and options
 pub same-ok : {A E : Type 0} {x y : A} → _≡_ {A = Result A E} (Ok x) (Ok y) → x ≡ y
 same-ok h = cc
-
-pub same-err : {A E : Type 0} {x y : E} → _≡_ {A = Result A E} (Err x) (Err y) → x ≡ y
-same-err h = cc
 
 -- no refusal is an answer
 pub err-not-ok : {A E X : Type 0} {e : E} {x : A} → _≡_ {A = Result A E} (Err e) (Ok x) → X
 err-not-ok h = absurd (let z : _≡_ {A = ℕ} 0 1 = cc in omega arith)
+
+pub none-not-some : {A X : Type 0} {x : A} → _≡_ {A = Option A} None (Some x) → X
+none-not-some h = absurd (let z : _≡_ {A = ℕ} 0 1 = cc in omega arith)
 
 pub ok-then : {A B E : Type 0} (r : Result A E) (f : A → Result B E) (b : B) → and-then r f ≡ Ok b → (a : A) × (r ≡ Ok a) × (f a ≡ Ok b)
 ok-then (Ok x) f b h = (x, refl, h)
@@ -141,14 +144,14 @@ free-join d c e (l ∷ []) f = f .0
 free-join d c e (l ∷ (m ∷ ls)) f = free-append d l (c ∷ join c (m ∷ ls)) (f .0) (e, free-join d c e (m ∷ ls) (f .1))
 
 -- ## Lines with their ends
-abbrev pub lines : List (List ℕ) → Pieces
-lines [] = last []
-lines (l ∷ ls) = more l (lines ls)
-
-pub cut-ended : (ls : List (List ℕ)) → All (Free 10) ls → cut 10 (ended ls) ≡ lines ls
+pub cut-ended : (ls : List (List ℕ)) → All (Free 10) ls → cut 10 (ended ls) ≡ lines-then ls (last [])
 cut-ended [] f = refl
 cut-ended (l ∷ ls) f = rw (cut-more 10 l (ended ls) (f .0), cut-ended ls (f .1))
 
-pub glue-lines : (ls : List (List ℕ)) → glue 10 (lines ls) ≡ ended ls
+pub glue-lines : (ls : List (List ℕ)) → glue 10 (lines-then ls (last [])) ≡ ended ls
 glue-lines [] = refl
 glue-lines (l ∷ ls) = rw (glue-lines ls)
+
+pub lines-append : (ls ms : List (List ℕ)) (p : Pieces) → lines-then (ls ++ ms) p ≡ lines-then ls (lines-then ms p)
+lines-append [] ms p = refl
+lines-append (l ∷ ls) ms p = rw (lines-append ls ms p)

@@ -3,7 +3,7 @@ use Prim.Native.Nat.{ℕ, _^_, _≤_, _<_}
 use mathlib.Core.Path.{_≡_, refl, sym, ap, _∙_}
 use mathlib.Core.Logic.{_⊎_, inl, inr}
 use mathlib.Core.List.{List, [], _∷_, map}
-use mathlib.Core.Bool.{Bool, true, false, cond, not, _&&_, false≢true}
+use mathlib.Core.Bool.{true, false, _&&_, false≢true}
 use native.Mathlib.Omega.{arith}
 use lib.Dec.{leb, eqb}
 use lib.ListN.{length, getD, length-map}
@@ -16,9 +16,7 @@ use Rattle.std.specs.shelf.Text.{allDigits}
 use Rattle.std.specs.Text.{In}
 use Rattle.std.specs.Reads.{value}
 use Rattle.std.specs.Written.{decimal}
-use Rattle.std.specs.declared.result.Result.{Result}
-use Rattle.std.specs.declared.result.Result.the-variants.{Ok, Err}
-use Rattle.job.specs.declared.fault.FieldFault.{FieldFault}
+use Rattle.std.specs.declared.result.Result.the-variants.{Ok}
 use Rattle.job.specs.declared.fault.FieldFault.the-variants.{NoNumber, TooManyPoints}
 use Rattle.job.proofs.Admitting.{by-bool}
 use Rattle.spelling.specs.declared.column.Column.{Column}
@@ -31,8 +29,8 @@ use Rattle.spelling.specs.Texts.{cut, all-of, same, each}
 use Rattle.spelling.proofs.Basics.{ok-given, same-ok, err-not-ok, each-back, each-all, each-reads, same-true, Free, some-piece, join-cut, cut-join, free-join}
 
 -- ## Numbers
-own : Numerals (λ ds. allDigits ds ≡ true) (value 10)
-own = numerals-by-value (λ ds. allDigits ds ≡ true) tells-allDigits
+pub base-ten : Numerals (λ ds. allDigits ds ≡ true) (value 10)
+base-ten = numerals-by-value (λ ds. allDigits ds ≡ true) tells-allDigits
 
 plain-some : (t : List ℕ) → plain t ≡ true → 0 < length t
 plain-some [] h = absurd (false≢true h)
@@ -48,14 +46,19 @@ plain-from [] h f = absurd (omega arith)
 plain-from (c ∷ []) h f = refl
 plain-from (c ∷ (d ∷ ds)) h f = rw (ne-eqb c 48 (λ e. let z = f e in omega arith))
 
-pub number-back : (top : ℕ) → top < 2 ^ 64 → (t : List ℕ) (n : ℕ) → number top t ≡ Ok n → (decimal n ≡ t) × (n ≤ top)
-number-back top b t n h =
-    let (p, q) = ok-given _ _ _ n h in
-    let (d, pl) = and-parts (allDigits t) (plain t) p in
-    let (l, v) = ok-given _ _ _ n q in
+pub number-parts : (top : ℕ) (t : List ℕ) (n : ℕ) → number top t ≡ Ok n → (allDigits t ≡ true) × (plain t ≡ true) × (n ≤ top) × (value 10 t ≡ n)
+number-parts top t n h =
+    let (p, q) = ok-given (allDigits t && plain t) _ _ n h in
+    let (d, one) = and-parts (allDigits t) (plain t) p in
+    let (l, v) = ok-given (leb (value 10 t) top) _ _ n q in
     let e : value 10 t ≡ n = same-ok v in
     let k = leb-true (value 10 t) top l in
-    (rw (← e) (decimal-value own t d (plain-some t pl) (plain-zero t pl) (omega arith)), rw e at k)
+    (d, one, rw e at k, e)
+
+pub number-back : (top : ℕ) → top < 2 ^ 64 → (t : List ℕ) (n : ℕ) → number top t ≡ Ok n → (decimal n ≡ t) × (n ≤ top)
+number-back top b t n h =
+    let (d, one, l, e) = number-parts top t n h in
+    (rw (← e) (decimal-value base-ten t d (plain-some t one) (plain-zero t one) (omega arith)), l)
 
 plain-decimal : (n : ℕ) → n < 2 ^ 64 → plain (decimal n) ≡ true
 plain-decimal n b = plain-from (decimal n) (decimal-some n b) (λ e. go (cases-eq n 0) e)
@@ -67,7 +70,7 @@ plain-decimal n b = plain-from (decimal n) (decimal-some n b) (λ e. go (cases-e
 pub number-reads : (top n : ℕ) → top < 2 ^ 64 → n ≤ top → number top (decimal n) ≡ Ok n
 number-reads top n b h =
     let s : n < 2 ^ 64 = omega arith in
-    rw (digits-decimal own n s, plain-decimal n s, value-decimal own n s, le-leb n top h)
+    rw (digits-decimal base-ten n s, plain-decimal n s, value-decimal base-ten n s, le-leb n top h)
 
 pub number-exactly-written : Number-exactly-written
 number-exactly-written top b t n =
@@ -80,7 +83,7 @@ free-digits c h [] d = tt
 free-digits c h (x ∷ xs) d = let (p, q) = tells-allDigits .parts x xs d in (ne-eqb x c (λ e. h (rw e at p)), free-digits c h xs q)
 
 pub free-decimal : (c : ℕ) → (In 48 57 c → ⊥) → (n : ℕ) → n < 2 ^ 64 → Free c (decimal n)
-free-decimal c h n b = free-digits c h (decimal n) (digits-decimal own n b)
+free-decimal c h n b = free-digits c h (decimal n) (digits-decimal base-ten n b)
 
 -- ## Letters
 pub letter-back : (t : List ℕ) (x : ℕ) → letter t ≡ Ok x → ((x ∷ []) ≡ t) × ((x ≡ 84) ⊎ (x ≡ 83))
@@ -105,17 +108,28 @@ joined-text : (ps : List ℕ) → 0 < length ps → points-text ps ≡ join 44 (
 joined-text [] h = absurd (omega arith)
 joined-text (p ∷ ps) h = refl
 
-pub points-back : (t : List ℕ) (ps : List ℕ) → points t ≡ Ok ps → (points-text ps ≡ t) × Few-small ps
-points-back t ps h = by-bool (same t (45 ∷ []))
-    (λ e. let z : [] ≡ ps = same-ok (rw e at h) in rw (← z) (sym (same-true t _ e), record { small = tt; few = omega arith }))
+-- a list that was read is `-`, or each of its pieces was read
+pub points-parts : (t ps : List ℕ) → points t ≡ Ok ps →
+    ((same t (45 ∷ []) ≡ true) × (ps ≡ [])) ⊎ ((same t (45 ∷ []) ≡ false) × (length (all-of (cut 44 t)) ≤ 8) × (each (number 255) (all-of (cut 44 t)) ≡ Ok ps))
+points-parts t ps h = by-bool (same t (45 ∷ []))
+    (λ e. inl (e, sym (same-ok (rw e at h))))
     (λ e.
       let (f, g) = ok-given (leb (length (all-of (cut 44 t))) 8) TooManyPoints (each (number 255) (all-of (cut 44 t))) ps (rw e at h) in
-      let w = each-back (number 255) decimal (λ t x k. number-back 255 (omega arith) t x k .0) (all-of (cut 44 t)) ps g in
-      let n : length ps ≡ length (all-of (cut 44 t)) = sym (length-map ps decimal) ∙ ap length w in
-      let k = leb-true _ _ f in
+      inr (e, leb-true _ _ f, g))
+
+pub points-back : (t ps : List ℕ) → points t ≡ Ok ps → (points-text ps ≡ t) × Few-small ps
+points-back t ps h = go (points-parts t ps h)
+  where
+    ts : List (List ℕ)
+    ts = all-of (cut 44 t)
+    go : ((same t (45 ∷ []) ≡ true) × (ps ≡ [])) ⊎ ((same t (45 ∷ []) ≡ false) × (length ts ≤ 8) × (each (number 255) ts ≡ Ok ps)) → (points-text ps ≡ t) × Few-small ps
+    go (inl (e, z)) = rw z (sym (same-true t _ e), record { small = tt; few = omega arith })
+    go (inr (e, k, g)) =
+      let w = each-back (number 255) decimal (λ t x k. number-back 255 (omega arith) t x k .0) ts ps g in
+      let n : length ps ≡ length ts = sym (length-map ps decimal) ∙ ap length w in
       let s = some-piece (cut 44 t) in
       (joined-text ps (omega arith) ∙ (ap (join 44) w ∙ join-cut 44 t),
-       record { small = each-all (number 255) (λ p. p ≤ 255) (λ t x k. number-back 255 (omega arith) t x k .1) (all-of (cut 44 t)) ps g; few = omega arith }))
+       record { small = each-all (number 255) (λ p. p ≤ 255) (λ t x k. number-back 255 (omega arith) t x k .1) ts ps g; few = omega arith })
 
 free-pieces : (c : ℕ) → (In 48 57 c → ⊥) → (ps : List ℕ) → All (λ p. p ≤ 255) ps → All (Free c) (map decimal ps)
 free-pieces c h ps a = all-map (Free c) decimal ps (all-weaker (λ p. p ≤ 255) _ (λ p k. free-decimal c h p (omega arith)) ps a)
