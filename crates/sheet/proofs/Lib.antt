@@ -3,3 +3,4 @@ pub mod Numbers
 pub mod Gathered
 pub mod Putting
 pub mod Lines
+pub mod Promised

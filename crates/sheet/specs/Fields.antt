@@ -1,8 +1,9 @@
 -- What a field of a column holds.
-use Prim.Native.Nat.{ℕ}
+use Prim.Native.Nat.{ℕ, _≤_}
 use mathlib.Core.Path.{_≡_}
 use mathlib.Core.List.{List}
 use Rattle.std.specs.Results.{Cases}
+use Rattle.std.specs.Written.{decimal}
 use Rattle.std.specs.declared.result.Result.{Result}
 use Rattle.std.specs.declared.result.Result.the-variants.{Ok, Err}
 use Rattle.job.specs.declared.fault.FieldFault.{FieldFault}
@@ -25,3 +26,7 @@ Reads Proc t at r = r ≡ and-then (letter t) (λ x. Ok (Letter x))
 Reads Arg t at r = r ≡ and-then (number 4294967295 t) (λ x. Ok (Number x))
 Reads Urg t at r = r ≡ and-then (number 9 t) (λ x. Ok (Number x))
 Reads Points t at r = Cases r (Is-list t at) (λ _. ⊥)
+
+-- the number that was written, or no number within the range was written
+abbrev pub Written : ℕ → List ℕ → Result ℕ FieldFault → Type 0
+Written top t r = Cases r (λ n. (t ≡ decimal n) × (n ≤ top)) (λ _. (n : ℕ) → n ≤ top → t ≡ decimal n → ⊥)

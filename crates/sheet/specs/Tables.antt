@@ -10,7 +10,10 @@ use Rattle.job.specs.declared.wire.Wire.{Wire}
 use Rattle.job.specs.Fixed.{list-of}
 use Rattle.job.specs.Plain.{Job}
 use Rattle.spelling.specs.declared.fault.SheetFault.{SheetFault}
+use Rattle.spelling.specs.declared.fault.SheetFault.the-variants.{NoBytes, AtLine}
+use Rattle.spelling.specs.Laws.{Faulty-line}
 use Rattle.spelling.specs.Sheet.{Tables, read}
+use Rattle.spelling.specs.Spelling.{Within, Spelled}
 
 -- the list that was to be read, or the same fault
 abbrev pub Gathers : {T E : Type 0} {N : ℕ} → Result (List T) E → Result (FixedList T N) E → Type 0
@@ -32,3 +35,15 @@ Leaves a r js ws = Cases r (λ _. a ≡ Ok (record { jobs = js; wires = ws })) (
 -- what reading a sheet answers and leaves: the tables that it says, or its first fault and no tables
 abbrev pub Read : List ℕ → Result (Unit {0}) SheetFault → List Job → List Wire → Type 0
 Read bytes r js ws = Cases r (λ _. read bytes ≡ Ok (record { jobs = js; wires = ws })) (λ e. (read bytes ≡ Err e) × (js ≡ []) × (ws ≡ []))
+
+-- accepted exactly if the bytes spell tables within the limits, which are then the tables that were read
+abbrev pub Spells : List ℕ → Result (Unit {0}) SheetFault → List Job → List Wire → Type 0
+Spells bytes r js ws = Cases r (λ _. Within (record { jobs = js; wires = ws }) × Spelled bytes (record { jobs = js; wires = ws })) (λ _. (t : Tables) → Within t → Spelled bytes t → ⊥)
+
+-- no bytes, or a line that is the first faulty one, by the first of its checks that fails
+abbrev pub First-fault : List ℕ → SheetFault → Type 0
+First-fault bytes NoBytes = bytes ≡ []
+First-fault bytes (AtLine n f) = Faulty-line bytes n f
+
+abbrev pub Faults : List ℕ → Result (Unit {0}) SheetFault → Type 0
+Faults bytes r = Cases r (λ _. Unit {0}) (First-fault bytes)

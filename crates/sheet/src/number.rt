@@ -1,9 +1,17 @@
 ghost use mathlib.Core.Path.{_≡_};
 ghost use Rattle.spelling.specs.Fields.{number as number-of};
+ghost use Rattle.sheet.specs.Fields.{Written};
 use job::fault::FieldFault;
 
-// A number of at most `top`, in base-ten digits without leading zeros.
+// A number of at most `top`, in base-ten digits without leading zeros: exactly what one writes for it is read.
 pub fn number(text: &[u8], top: u32) -> Result<u32, FieldFault>
+    ensures value { λ r. ⌜ r ≡ number-of top (now (text .entry)) ⌝ }
+    ensures written { λ r. ⌜ Written top (now (text .entry)) r ⌝ }
+{
+    parse(text, top)
+}
+
+fn parse(text: &[u8], top: u32) -> Result<u32, FieldFault>
     ensures { λ r. ⌜ r ≡ number-of top (now (text .entry)) ⌝ }
 {
     let most = top as u64;

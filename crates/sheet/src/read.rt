@@ -3,10 +3,10 @@ ghost use mathlib.Core.List.{[]};
 ghost use lib.ListN.{length};
 ghost use Rattle.job.specs.Records.{jobs-of};
 ghost use Rattle.job.specs.Wiring.{wires-of};
-ghost use Rattle.spelling.specs.Sheet.{read as read-of, read-lines as read-lines-of, jobs-from, wires-part, wires-from};
+ghost use Rattle.spelling.specs.Sheet.{read as read-of, jobs-from, wires-part, wires-from};
 ghost use Rattle.spelling.specs.Texts.{cut};
 ghost use Rattle.sheet.specs.Reading.{rest-of};
-ghost use Rattle.sheet.specs.Tables.{Leaves, Read};
+ghost use Rattle.sheet.specs.Tables.{Leaves, Read, Spells, Faults};
 use crate::jobs::take_job;
 use crate::names::names;
 use crate::place::at;
@@ -88,7 +88,9 @@ fn read_lines(sheet: &[u8], jobs: &mut JobTable, wires: &mut WireTable) -> Resul
 
 // Reads a sheet into the tables, whatever they held; a refused sheet leaves both empty.
 pub fn read(sheet: &[u8], jobs: &mut JobTable, wires: &mut WireTable) -> Result<(), SheetFault>
-    ensures { λ r. ⌜ Read (now (sheet .entry)) r (jobs-of (now (jobs .exit))) (wires-of (now (wires .exit))) ⌝ }
+    ensures answer { λ r. ⌜ Read (now (sheet .entry)) r (jobs-of (now (jobs .exit))) (wires-of (now (wires .exit))) ⌝ }
+    ensures spelled { λ r. ⌜ Spells (now (sheet .entry)) r (jobs-of (now (jobs .exit))) (wires-of (now (wires .exit))) ⌝ }
+    ensures first { λ r. ⌜ Faults (now (sheet .entry)) r ⌝ }
 {
     jobs.clear();
     wires.clear();

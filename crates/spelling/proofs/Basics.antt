@@ -16,7 +16,7 @@ use Rattle.job.specs.Lists.{has}
 use Rattle.job.specs.Results.{and-then, or-else, given}
 use Rattle.job.proofs.Admitting.{by-bool}
 use Rattle.spelling.specs.Checks.{lines-then}
-use Rattle.spelling.specs.Spelling.{join, ended}
+use Rattle.spelling.specs.Spelling.{join, with-ends}
 use Rattle.spelling.specs.Texts.{Pieces, last, more, onto, cut, all-of, same, each}
 
 -- ## Results and options
@@ -144,11 +144,11 @@ free-join d c e (l ∷ []) f = f .0
 free-join d c e (l ∷ (m ∷ ls)) f = free-append d l (c ∷ join c (m ∷ ls)) (f .0) (e, free-join d c e (m ∷ ls) (f .1))
 
 -- ## Lines with their ends
-pub cut-ended : (ls : List (List ℕ)) → All (Free 10) ls → cut 10 (ended ls) ≡ lines-then ls (last [])
+pub cut-ended : (ls : List (List ℕ)) → All (Free 10) ls → cut 10 (with-ends ls) ≡ lines-then ls (last [])
 cut-ended [] f = refl
-cut-ended (l ∷ ls) f = rw (cut-more 10 l (ended ls) (f .0), cut-ended ls (f .1))
+cut-ended (l ∷ ls) f = rw (cut-more 10 l (with-ends ls) (f .0), cut-ended ls (f .1))
 
-pub glue-lines : (ls : List (List ℕ)) → glue 10 (lines-then ls (last [])) ≡ ended ls
+pub glue-lines : (ls : List (List ℕ)) → glue 10 (lines-then ls (last [])) ≡ with-ends ls
 glue-lines [] = refl
 glue-lines (l ∷ ls) = rw (glue-lines ls)
 

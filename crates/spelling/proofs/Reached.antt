@@ -18,7 +18,7 @@ use Rattle.spelling.specs.declared.column.Column.{Column}
 use Rattle.spelling.specs.Checks.{lines-then}
 use Rattle.spelling.specs.Lines.{order-of-four}
 use Rattle.spelling.specs.Sheet.{Tables, wire-names, wires-from, wires-part, jobs-from, read-lines, read}
-use Rattle.spelling.specs.Spelling.{ended, job-text, wire-text, job-lines, wire-lines, part, spell, Within-job, Within-jobs, Within-wire, Within-wires, Within}
+use Rattle.spelling.specs.Spelling.{with-ends, job-text, wire-text, job-lines, wire-lines, part, spell, Within-job, Within-jobs, Within-wire, Within-wires, Within}
 use Rattle.spelling.specs.Texts.{Pieces, last, more, empty}
 use Rattle.spelling.proofs.Basics.{all-middle, Free, free-lacks, cut-ended, lines-append}
 use Rattle.spelling.proofs.Lines.{names-read, free-names, job-line-reads, job-some, free-job, wire-line-reads, free-wire}
@@ -73,7 +73,7 @@ free-part true ws a = free-wires ws a
 free-part false [] a = tt
 free-part false (w ∷ ws) a = free-wires (w ∷ ws) a
 
-some-ended : (l : List ℕ) (ls : List (List ℕ)) → empty (ended (l ∷ ls)) ≡ false
+some-ended : (l : List ℕ) (ls : List (List ℕ)) → empty (with-ends (l ∷ ls)) ≡ false
 some-ended [] ls = refl
 some-ended (x ∷ l) ls = refl
 

@@ -14,7 +14,7 @@ use Rattle.spelling.specs.Checks.{Line, Place, at-names, at-job, at-wire-names
 use Rattle.spelling.specs.Fields.{number}
 use Rattle.spelling.specs.Lines.{order-of-four}
 use Rattle.spelling.specs.Sheet.{Tables, read-lines, read}
-use Rattle.spelling.specs.Spelling.{ended, Within-jobs, Within-wires, Within, Spelled}
+use Rattle.spelling.specs.Spelling.{with-ends, Within-jobs, Within-wires, Within, Spelled}
 use Rattle.spelling.specs.Texts.{Pieces, cut, empty}
 
 -- ## A number is read exactly as it is written
@@ -54,7 +54,7 @@ Refused-at-first-fault = (bytes : List ℕ) (n : ℕ) (f : LineFault) → (read 
 pub record Begins (p : Place) : Type 0 where
   pub goes-on : List (List ℕ)
   pub tables : Tables
-  pub accepted : read (ended (before p ++ goes-on)) ≡ Ok tables
+  pub accepted : read (with-ends (before p ++ goes-on)) ≡ Ok tables
 
 abbrev pub Faultless-before : Type 0
 Faultless-before = (p : Place) → Sound p → Begins p

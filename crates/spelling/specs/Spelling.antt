@@ -23,9 +23,9 @@ join c (l ∷ []) = l
 join c (l ∷ (m ∷ ls)) = l ++ (c ∷ join c (m ∷ ls))
 
 -- lines, each with its end
-abbrev pub ended : List (List ℕ) → List ℕ
-ended [] = []
-ended (l ∷ ls) = l ++ (10 ∷ ended ls)
+abbrev pub with-ends : List (List ℕ) → List ℕ
+with-ends [] = []
+with-ends (l ∷ ls) = l ++ (10 ∷ with-ends ls)
 
 abbrev pub points-text : List ℕ → List ℕ
 points-text [] = 45 ∷ []
@@ -61,7 +61,7 @@ part false [] = []
 part false (w ∷ ws) = wire-lines (w ∷ ws)
 
 abbrev pub spell : List Column → Bool → Tables → List ℕ
-spell order with-part t = ended (job-lines order (t .jobs) ++ part with-part (t .wires))
+spell order with-part t = with-ends (job-lines order (t .jobs) ++ part with-part (t .wires))
 
 -- ## The limits of a sheet's tables
 pub record Within-job (j : Job) : Type 0 where

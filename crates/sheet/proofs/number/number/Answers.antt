@@ -1,27 +1,7 @@
-use Prim.Native.Nat.{_<_}
-use mathlib.Core.Path.{_≡_}
-use mathlib.Core.Logic.{inl, inr}
+use borrow.Author.Needs.{needs}
 use native.Mathlib.Omega.{arith}
-use lib.ListN.{length, getD}
-use Rattle.sheet.proofs.Numbers.{number-none, digits-next, near-next, number-ends}
+use Rattle.sheet.proofs.Promised.{written-exactly}
 use Rattle.sheet.proofs.number.number.Needs as need
-use Rattle.sheet.proofs.number.number.Needs.{then-n-most, else-n-most, else-text-gt1·by·then-text-gt1·else-text-eq48, else-text-gt1·by·else-text-gt1}
-
-pub returns-then-b-lt48 : need.returns-then-b-lt48
-returns-then-b-lt48 c = number-none (c .args .top) (c .args .text .now) (c .loop-b .b-index) (c .loop-b-test .taken) (λ d. omega arith)
-
-pub returns-then-b-gt57 : need.returns-then-b-gt57
-returns-then-b-gt57 c = number-none (c .args .top) (c .args .text .now) (c .loop-b .b-index) (c .loop-b-test .taken) (λ d. omega arith)
-
-pub loop-b-again : need.loop-b-again
-loop-b-again c =
-    (digits-next (c .args .text .now) (c .loop-b .b-index) (c .loop-b-test .taken) (c .loop-b .inv .0) (c .if-b-lt48 .left, c .if-b-gt57 .left),
-     near-next (c .args .top) (c .loop-b .n) (c .args .text .now) (c .loop-b .b-index) (c .loop-b-test .taken) (c .if-b-lt48 .left, c .if-b-gt57 .left) (c .loop-b .inv .1) (c .if-n-most .n)
-       (elim (c .if-n-most .came) [ then-n-most w ↦ inl (w .if-n-most .taken, w .n-is) | else-n-most w ↦ inr (w .if-n-most .left, w .n-is) ]))
-
--- the first digit is no 0 unless it is the only one
-pub returns-then-n-most-2 : need.returns-then-n-most-2
-returns-then-n-most-2 c = number-ends (c .args .top) (c .loop-b .n) (c .args .text .now) (c .loop-b .b-index) (c .loop-b-test .left) (c .loop-b .inv .0) (c .loop-b .inv .1) (omega arith) (λ e. elim (c .else-text-gt1 .came) [ else-text-gt1·by·then-text-gt1·else-text-eq48 w ↦ absurd (w .if-text-eq48 .left e) | else-text-gt1·by·else-text-gt1 w ↦ omega (arith, w .if-text-gt1 .left) ]) .0 (c .if-n-most-2 .taken)
 
 pub returns : need.returns
-returns c = number-ends (c .args .top) (c .loop-b .n) (c .args .text .now) (c .loop-b .b-index) (c .loop-b-test .left) (c .loop-b .inv .0) (c .loop-b .inv .1) (omega arith) (λ e. elim (c .else-text-gt1 .came) [ else-text-gt1·by·then-text-gt1·else-text-eq48 w ↦ absurd (w .if-text-eq48 .left e) | else-text-gt1·by·else-text-gt1 w ↦ omega (arith, w .if-text-gt1 .left) ]) .1 (c .if-n-most-2 .left)
+returns c = record { value = c .parse .ensures; written = written-exactly (c .args .top) (c .args .text .now) (c .parse .result) (search needs) (c .parse .ensures) }

@@ -26,4 +26,4 @@ loop-piece-again c =
     let l = c .loop-piece .inv .0 in
     let e = pushed-room 8 (λ y. y) was (c .in-Continue-point .point) (c .push .result) (list-of (c .push .last .self)) (omega arith) (c .push .ensures) in
     let m = ap length e ∙ length-push was (c .in-Continue-point .point) in
-    (omega arith, onward-step (number 255) was (list-of (c .push .last .self)) _ _ _ (c .in-Continue-point .point) _ ps (c .in-Continue-point .ensures tt) e (c .loop-piece .inv .1))
+    (omega arith, onward-step (number 255) was (list-of (c .push .last .self)) _ _ _ (c .in-Continue-point .point) _ ps (c .in-Continue-point .ensures tt .value) e (c .loop-piece .inv .1))

@@ -4,7 +4,7 @@ use lib.ListN.{take}
 use Rattle.std.specs.shelf.Text.{allDigits}
 use Rattle.std.specs.Reads.{value}
 use Rattle.sheet.proofs.Numbers.{Near}
-use Rattle.sheet.proofs.number.number.Given as given
+use Rattle.sheet.proofs.number.parse.Given as given
 
 abbrev pub Inv-loop-b : given.InvT-loop-b
 Inv-loop-b l = (allDigits (take (l .b-index) (l .text)) ≡ true) × Near (l .top) (l .n) (value 10 (take (l .b-index) (l .text)))
