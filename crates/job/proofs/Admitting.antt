@@ -63,3 +63,8 @@ admitted-same j k h =
     let q = then-same (calm (j .urgency)) Field _ k p in
     let r = then-same (bounded (j .points)) Field _ k q in
     passes-same (distinct (j .points)) PointTwice j k (sym r)
+
+-- a job within all limits
+pub admitted-within : (l a u : ℕ) (ps : List ℕ) → 65 ≤ l → l ≤ 90 → u ≤ 9 → length ps ≤ 8 → every (λ (p : ℕ). leb p 255) ps ≡ true → distinct ps ≡ true →
+    admitted (record { letter = l; argument = a; urgency = u; points = ps }) ≡ Ok (record { letter = l; argument = a; urgency = u; points = ps })
+admitted-within l a u ps h k m n e d = rw (le-leb 65 l h, le-leb l 90 k, le-leb u 9 m, le-leb (length ps) 8 n, e, d)

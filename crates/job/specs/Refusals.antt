@@ -1,5 +1,7 @@
 -- The numbers of refusals.
 use Prim.Native.Nat.{ℕ}
+use mathlib.Core.List.{List, _∷_, _++_}
+use Rattle.std.specs.Written.{decimal}
 use Rattle.job.specs.declared.fault.FieldFault.{FieldFault}
 use Rattle.job.specs.declared.fault.FieldFault.the-variants.{NoNumber, AboveRange, UnknownLetter, TooManyPoints}
 use Rattle.job.specs.declared.fault.JobFault.{JobFault}
@@ -24,3 +26,7 @@ abbrev pub preview-refusal : PreviewFault → Refusal
 preview-refusal WrongLength = plain-refusal 13
 preview-refusal (Candidate (Field e)) = record { number = 4; line = 0; field = 0; reason = reason-of e }
 preview-refusal (Candidate PointTwice) = plain-refusal 5
+
+-- how a refusal is written: its four numbers with a space between two
+abbrev pub refusal-values : Refusal → List ℕ
+refusal-values r = decimal (r .number) ++ (32 ∷ (decimal (r .line) ++ (32 ∷ (decimal (r .field) ++ (32 ∷ decimal (r .reason))))))

@@ -1,8 +1,10 @@
 ghost use mathlib.Core.Path.{_≡_};
-ghost use Rattle.job.specs.Refusals.{reason-of, preview-refusal};
+ghost use Rattle.std.specs.declared.option.Option.the-variants.{Some};
+ghost use Rattle.job.specs.Refusals.{reason-of, preview-refusal, refusal-values};
 use crate::fault::FieldFault;
 use crate::fault::JobFault;
 use crate::fault::PreviewFault;
+use std::fmt;
 
 // A refusal by its numbers, as an installer meets it.
 #[derive(Clone, Copy, PartialEq, Eq, Debug)]
@@ -11,6 +13,18 @@ pub struct Refusal {
     pub line: usize,
     pub field: usize,
     pub reason: u8,
+}
+
+pub impl fmt::Display for Refusal as RefusalDisplay {
+    ghost shown = { λ r. Some (refusal-values r) };
+
+    fn fmt<W: fmt::Write>(&self, f: &mut fmt::Formatter<W>) -> fmt::Result {
+        let number = self.number;
+        let line = self.line;
+        let field = self.field;
+        let reason = self.reason;
+        write!(f, "{number} {line} {field} {reason}")
+    }
 }
 
 impl FieldFault {

@@ -2,6 +2,7 @@ ghost use mathlib.Core.Path.{_≡_};
 ghost use Prim.Native.Nat.{_≤_};
 ghost use lib.ListN.{length};
 ghost use Rattle.std.specs.Vec.{made};
+ghost use Rattle.std.specs.declared.result.Result.the-variants.{Ok};
 ghost use Rattle.job.specs.Fixed.{list-of};
 ghost use Rattle.job.specs.Records.{job-of, draft-of};
 ghost use Rattle.job.specs.Admitted.{lettered, calm, admitted, assembled, Gives, Gathers, no-record};
@@ -105,9 +106,10 @@ impl JobRecord {
         self.points.as_slice()
     }
 
-    // The record as a draft that says the same.
+    // The record as a draft that says the same, and that is admitted as every record is.
     pub fn draft(&self, heap: Global) -> Result<JobDraft, AllocError>
-        ensures { λ r. ⌜ made r (λ d. draft-of d ≡ job-of (now (self .entry))) ⌝ }
+        ensures same { λ r. ⌜ made r (λ d. draft-of d ≡ job-of (now (self .entry))) ⌝ }
+        ensures admitted { λ r. ⌜ made r (λ d. admitted (draft-of d) ≡ Ok (draft-of d)) ⌝ }
     {
         let mut points = Vec::new(heap);
         for p in self.points.as_slice() {

@@ -1,0 +1,48 @@
+ghost use mathlib.Core.Path.{_≡_};
+ghost use Rattle.std.specs.declared.option.Option.the-variants.{Some, None};
+ghost use Rattle.listing.specs.Refusals.{check-refusal};
+ghost use Rattle.listing.specs.declared.fault.CheckFault.the-variants.{Sheet, NoMemory};
+use job::refusal::Refusal;
+use spelling::fault::SheetFault;
+use spelling::fault::SheetFaultDebug;
+use spelling::fault::SheetFaultPartialEq;
+use std::alloc::AllocError;
+
+// Why a sheet has no report.
+#[derive(Clone, Copy, PartialEq, Eq, Debug)]
+pub enum CheckFault {
+    // more bytes than a sheet may have
+    TooLong,
+    Sheet(SheetFault),
+    // no memory was left for the answer; this is no fault of the sheet
+    NoMemory,
+}
+
+pub impl From<SheetFault> for CheckFault as CheckFromSheet {
+    ghost converts = { λ e r. r ≡ Sheet e };
+
+    fn from(e: SheetFault) -> CheckFault {
+        CheckFault::Sheet(e)
+    }
+}
+
+pub impl From<AllocError> for CheckFault as CheckFromAlloc {
+    ghost converts = { λ _ r. r ≡ NoMemory };
+
+    fn from(_e: AllocError) -> CheckFault {
+        CheckFault::NoMemory
+    }
+}
+
+impl CheckFault {
+    // The numbers by which it is reported; want of memory has none.
+    pub fn refusal(self) -> Option<Refusal>
+        ensures { λ r. ⌜ r ≡ check-refusal self ⌝ }
+    {
+        match self {
+            CheckFault::TooLong => Some(Refusal { number: 13, line: 0, field: 0, reason: 0 }),
+            CheckFault::Sheet(fault) => Some(fault.refusal()),
+            CheckFault::NoMemory => None,
+        }
+    }
+}

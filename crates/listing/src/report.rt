@@ -1,0 +1,7 @@
+use job::fixed::FixedList;
+
+// For each job of a sheet, in its order, the highest number of an earlier job that clashes with it.
+#[derive(Drop)]
+pub struct Report {
+    pub clashes: FixedList<Option<usize>, 64>,
+}
