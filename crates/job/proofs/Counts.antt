@@ -37,15 +37,16 @@ counts-push n ws w h = sym (fill-by-all (λ p. leaving p (ws ++ w ∷ [])) (set 
   where
     long : length (counts n ws) ≡ n
     long = length-map-counting (λ p. leaving p ws) 0 n
+
     at : (k : ℕ) → k < n → getD (set (counts n ws) (w .from) (getD (counts n ws) (w .from) 0 + 1)) k 0 ≡ leaving k (ws ++ w ∷ [])
     at k l = by-bool (eqb (w .from) k)
-      (λ e.
+        (λ e.
         let i = eqb-true (w .from) k e in
         let m : w .from < length (counts n ws) = rw long h in
         ap (λ q. getD (set (counts n ws) (w .from) (getD (counts n ws) (w .from) 0 + 1)) q 0) (sym i)
         ∙ (getD-set-same (counts n ws) (w .from) _ 0 m ∙ (ap (λ x. x + 1) (counts-at n ws (w .from) h)
         ∙ (ap (λ q. leaving q ws + 1) i ∙ sym (leaving-push k ws w ∙ rw e)))))
-      (λ e.
+        (λ e.
         let o : k ≢ w .from = λ z. eqb-false (w .from) k e (sym z) in
         getD-set-other (counts n ws) (w .from) k _ 0 o ∙ (counts-at n ws k l ∙ sym (leaving-push k ws w ∙ rw e (add-zero (leaving k ws)))))
 

@@ -58,12 +58,12 @@ marked-step ms ps i h l (n, m) = (length-set ms (getD ps i 0) 1 ∙ n, λ p. at 
   where
     at : (p : ℕ) → marked (set ms (getD ps i 0) 1) p ≡ (has (take i ps) p || eqb (getD ps i 0) p)
     at p = by-bool (eqb (getD ps i 0) p)
-      (λ e.
+        (λ e.
         let z = eqb-true (getD ps i 0) p e in
         let q : getD ps i 0 < length ms = omega arith in
         let s : getD (set ms (getD ps i 0) 1) p 0 ≡ 1 = ap (λ x. getD (set ms (getD ps i 0) 1) x 0) (sym z) ∙ getD-set-same ms (getD ps i 0) 1 0 q in
         rw (s, e) (or-true (has (take i ps) p)))
-      (λ e.
+        (λ e.
         let o : p ≢ getD ps i 0 = λ z. eqb-false (getD ps i 0) p e (sym z) in
         let s = getD-set-other ms (getD ps i 0) p 1 0 o in
         rw (s, e) (or-false _ (has (take i ps) p) (m p)))
@@ -92,8 +92,8 @@ module _ (ms : List ℕ) (js : List JobRecord) where
 
   pub unmarked-step : (n : ℕ) (r : JobRecord) (ps : List ℕ) → 0 < n → n ≤ length js → r ≡ getD js (n - 1) r → ps ≡ job-of r .points → false ≡ some (marked ms) ps → Unmarked-from ms (map job-of js) n → Unmarked-from ms (map job-of js) (n - 1)
   unmarked-step n r ps p l e q s u k h m = ⊎-elim
-    (λ z. let y : k ≡ n - 1 = omega arith in ap (λ x. some (marked ms) (job-at (map job-of js) x .points)) y ∙ points-at n r ps false p l e q s)
-    (λ z. u k z m) (cases-lt k n)
+      (λ z. let y : k ≡ n - 1 = omega arith in ap (λ x. some (marked ms) (job-at (map job-of js) x .points)) y ∙ points-at n r ps false p l e q s)
+      (λ z. u k z m) (cases-lt k n)
 
 -- the jobs that have a marked point are those that clash with a job whose points are marked
 pub clash-from-marked : (ms : List ℕ) (js : List Job) (j : Job) (r : Option ℕ) → Marked ms (j .points) → Highest-marked ms js r → Highest-clash js j r

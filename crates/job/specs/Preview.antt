@@ -27,7 +27,7 @@ Clear-from js j i = (k : ℕ) → i ≤ k → k < length js → clashes j (job-a
 -- the highest number of a job that clashes with j, or nothing if none does
 abbrev pub Highest-clash : List Job → Job → Option ℕ → Type 0
 Highest-clash js j r =
-  options.Cases r (Clear-from js j 0) (λ n. (1 ≤ n) × (n ≤ length js) × (clashes j (job-at js (n - 1)) ≡ true) × Clear-from js j n)
+    options.Cases r (Clear-from js j 0) (λ n. (1 ≤ n) × (n ≤ length js) × (clashes j (job-at js (n - 1)) ≡ true) × Clear-from js j n)
 
 abbrev pub blank-marks : List ℕ
 blank-marks = replicate 256 0
@@ -47,7 +47,7 @@ Unmarked-from ms js i = (k : ℕ) → i ≤ k → k < length js → some (marked
 -- the highest number of a job that has a marked point, or nothing if none has
 abbrev pub Highest-marked : List ℕ → List Job → Option ℕ → Type 0
 Highest-marked ms js r =
-  options.Cases r (Unmarked-from ms js 0) (λ n. (1 ≤ n) × (n ≤ length js) × (some (marked ms) (job-at js (n - 1) .points) ≡ true) × Unmarked-from ms js n)
+    options.Cases r (Unmarked-from ms js 0) (λ n. (1 ≤ n) × (n ≤ length js) × (some (marked ms) (job-at js (n - 1) .points) ≡ true) × Unmarked-from ms js n)
 
 -- 256 marks end blank, whatever they held; a list of another length stays as it was
 abbrev pub Blanked : List ℕ → List ℕ → Type 0

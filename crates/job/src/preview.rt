@@ -43,7 +43,11 @@ fn highest_marked(marks: &[u8], jobs: &[JobRecord]) -> Option<usize>
 }
 
 // The highest number of a job of the table that clashes with the draft. The 256 lent marks are blank afterwards, on every way out.
-pub fn preview(table: &JobTable, draft: &JobDraft, marks: &mut [u8]) -> Result<Option<usize>, PreviewFault>
+pub fn preview(
+    table: &JobTable,
+    draft: &JobDraft,
+    marks: &mut [u8],
+) -> Result<Option<usize>, PreviewFault>
     ensures answer { λ r. ⌜ Previewed (jobs-of (now (table .entry))) (draft-of (now (draft .entry))) (now (marks .entry)) r ⌝ }
     ensures blanked { λ _. ⌜ Blanked (now (marks .entry)) (now (marks .exit)) ⌝ }
 {

@@ -45,9 +45,24 @@ impl PreviewFault {
         ensures { λ r. ⌜ r ≡ preview-refusal self ⌝ }
     {
         match self {
-            PreviewFault::WrongLength => Refusal { number: 13, line: 0, field: 0, reason: 0 },
-            PreviewFault::Candidate(JobFault::Field(fault)) => Refusal { number: 4, line: 0, field: 0, reason: fault.reason() },
-            PreviewFault::Candidate(JobFault::PointTwice) => Refusal { number: 5, line: 0, field: 0, reason: 0 },
+            PreviewFault::WrongLength => Refusal {
+                number: 13,
+                line: 0,
+                field: 0,
+                reason: 0,
+            },
+            PreviewFault::Candidate(JobFault::Field(fault)) => Refusal {
+                number: 4,
+                line: 0,
+                field: 0,
+                reason: fault.reason(),
+            },
+            PreviewFault::Candidate(JobFault::PointTwice) => Refusal {
+                number: 5,
+                line: 0,
+                field: 0,
+                reason: 0,
+            },
         }
     }
 }

@@ -20,12 +20,12 @@ abbrev pub Rows-to : List Job → ℕ → List (Option ℕ) → Type 0
 Rows-to js i rows = (length rows ≡ i) × ((k : ℕ) → k < i → Highest-clash (take k js) (job-at js k) (getD rows k None))
 
 pub rows-more : (js : List Job) (i : ℕ) (rows rows′ : List (Option ℕ)) (row : Option ℕ) → Rows-to js i rows → rows′ ≡ rows ++ (row ∷ []) → Highest-clash (take i js) (job-at js i) row → Rows-to js (i + 1) rows′
-rows-more js i rows rows′ row (n, h) e r =
-    ( ap length e ∙ (length-push rows row ∙ ap (λ m. m + 1) n)
-    , below-more _ i
-        (λ k l. let z : k < length rows = omega arith in subst (λ (x : Option ℕ). Highest-clash (take k js) (job-at js k) x) (sym (ap (λ (l : List (Option ℕ)). getD l k None) e ∙ getD-append-left rows (row ∷ []) None k z)) (h k l))
-        (subst (λ (x : Option ℕ). Highest-clash (take i js) (job-at js i) x) (sym (ap (λ (l : List (Option ℕ)). getD l i None) e ∙ getD-push rows row None i n)) r)
-    )
+rows-more js i rows rows′ row (n, h) e r = (
+  ap length e ∙ (length-push rows row ∙ ap (λ m. m + 1) n),
+  below-more _ i
+      (λ k l. let z : k < length rows = omega arith in subst (λ (x : Option ℕ). Highest-clash (take k js) (job-at js k) x) (sym (ap (λ (l : List (Option ℕ)). getD l k None) e ∙ getD-append-left rows (row ∷ []) None k z)) (h k l))
+      (subst (λ (x : Option ℕ). Highest-clash (take i js) (job-at js i) x) (sym (ap (λ (l : List (Option ℕ)). getD l i None) e ∙ getD-push rows row None i n)) r),
+)
 
 pub rows-all : (js : List Job) (i : ℕ) (rows : List (Option ℕ)) → i ≡ length js → Rows-to js i rows → Clash-rows js rows
 rows-all js i rows e (n, h) = record { many = n ∙ e; each = λ k l. h k (rw e l) }

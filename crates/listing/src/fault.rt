@@ -3,10 +3,12 @@ ghost use Rattle.std.specs.declared.option.Option.the-variants.{Some, None};
 ghost use Rattle.listing.specs.Refusals.{check-refusal};
 ghost use Rattle.listing.specs.declared.fault.CheckFault.the-variants.{Sheet, NoMemory};
 use job::refusal::Refusal;
+use spelling::explain::SheetFaultDisplay;
 use spelling::fault::SheetFault;
 use spelling::fault::SheetFaultDebug;
 use spelling::fault::SheetFaultPartialEq;
 use std::alloc::AllocError;
+use std::fmt;
 
 // Why a sheet has no report.
 #[derive(Clone, Copy, PartialEq, Eq, Debug)]
@@ -40,9 +42,27 @@ impl CheckFault {
         ensures { λ r. ⌜ r ≡ check-refusal self ⌝ }
     {
         match self {
-            CheckFault::TooLong => Some(Refusal { number: 13, line: 0, field: 0, reason: 0 }),
+            CheckFault::TooLong => Some(Refusal {
+                number: 13,
+                line: 0,
+                field: 0,
+                reason: 0,
+            }),
             CheckFault::Sheet(fault) => Some(fault.refusal()),
             CheckFault::NoMemory => None,
+        }
+    }
+}
+
+pub impl fmt::Display for CheckFault as CheckFaultDisplay {
+    fn fmt<W: fmt::Write>(&self, f: &mut fmt::Formatter<W>) -> fmt::Result {
+        match *self {
+            CheckFault::TooLong => write!(
+                f,
+                "The sheet is too long: at most 16384 bytes are allowed."
+            ),
+            CheckFault::Sheet(fault) => write!(f, "{fault}"),
+            CheckFault::NoMemory => write!(f, "No memory is left for the answer."),
         }
     }
 }

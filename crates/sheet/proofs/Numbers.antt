@@ -53,6 +53,7 @@ pub number-ends : (top n : ℕ) (t : List ℕ) (i : ℕ) → length t ≤ i → 
 number-ends top n t i h d near some lead =
     let e = take-all i t h in
     let d′ = rw e at d in
-    let (b, w) = rw e at near in
-    ((λ k. let z : top < value 10 t = grind arith in rw (d′, plain-from t some lead, lt-leb (value 10 t) top z)),
-     (λ k. let z : n ≡ value 10 t = grind arith in rw (z, d′, plain-from t some lead, le-leb (value 10 t) top (omega arith))))
+    let (b, w) = rw e at near in (
+      (λ k. let z : top < value 10 t = grind arith in rw (d′, plain-from t some lead, lt-leb (value 10 t) top z)),
+      (λ k. let z : n ≡ value 10 t = grind arith in rw (z, d′, plain-from t some lead, le-leb (value 10 t) top (omega arith))),
+    )

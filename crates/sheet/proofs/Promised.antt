@@ -25,10 +25,10 @@ first-fault bytes NoBytes h = refused-without-bytes bytes .0 h
 first-fault bytes (AtLine n f) h = refused-at-first-fault bytes n f .0 h .1
 
 pub refused : (bytes : List ℕ) (e : SheetFault) → read bytes ≡ Err e → ((t : Tables) → Within t → Spelled bytes t → ⊥) × First-fault bytes e
-refused bytes e h =
-    ( (λ t w s. let k = accepted-exactly-spelled bytes t .1 (w, s) in absurd (let z : _≡_ {A = ℕ} 0 1 = cc in omega arith))
-    , first-fault bytes e h
-    )
+refused bytes e h = (
+  (λ t w s. let k = accepted-exactly-spelled bytes t .1 (w, s) in absurd (let z : _≡_ {A = ℕ} 0 1 = cc in omega arith)),
+  first-fault bytes e h,
+)
 
 pub written-exactly : (top : ℕ) (t : List ℕ) (r : Result ℕ FieldFault) → top < 2 ^ 32 → r ≡ number top t → Written top t r
 written-exactly top t (Ok n) h e = number-exactly-written top (omega arith) t n .0 (sym e)

@@ -47,7 +47,14 @@ fn is_order(columns: &[Column]) -> bool
     if columns.len() != 4 {
         return false;
     }
-    all_different(&[place(columns[0]), place(columns[1]), place(columns[2]), place(columns[3])])
+    all_different(
+        &[
+            place(columns[0]),
+            place(columns[1]),
+            place(columns[2]),
+            place(columns[3]),
+        ],
+    )
 }
 
 // The names of the columns, in the order in which the fields of each job stand.

@@ -21,7 +21,11 @@ use spelling::fault::SheetFault;
 use spelling::fault::SheetFromLine;
 
 // The wires, up to the end of the sheet.
-fn wire_lines(reader: &mut Reader<'_>, jobs: &JobTable, wires: &mut WireTable) -> Result<(), SheetFault>
+fn wire_lines(
+    reader: &mut Reader<'_>,
+    jobs: &JobTable,
+    wires: &mut WireTable,
+) -> Result<(), SheetFault>
     ensures { λ r. ⌜ Leaves (wires-from (jobs-of (now (jobs .entry))) (wires-of (now (wires .entry))) (cut 10 (rest-of (now (reader .entry))))) r (jobs-of (now (jobs .entry))) (wires-of (now (wires .exit))) ⌝ }
 {
     // behind the names, the jobs, an empty line and three names
@@ -32,12 +36,20 @@ fn wire_lines(reader: &mut Reader<'_>, jobs: &JobTable, wires: &mut WireTable) -
     if reader.rest().len() == 0 {
         return Ok(());
     }
-    let fault = if wires.is_full() { LineFault::TooManyWires } else { LineFault::Unended };
+    let fault = if wires.is_full() {
+        LineFault::TooManyWires
+    } else {
+        LineFault::Unended
+    };
     Err(SheetFault::AtLine(above + wires.len(), fault))
 }
 
 // The wires' part, behind the empty line: its names, and then the wires.
-fn wire_part(reader: &mut Reader<'_>, jobs: &JobTable, wires: &mut WireTable) -> Result<(), SheetFault>
+fn wire_part(
+    reader: &mut Reader<'_>,
+    jobs: &JobTable,
+    wires: &mut WireTable,
+) -> Result<(), SheetFault>
     requires { ⌜ wires-of (now wires) ≡ [] ⌝ }
     ensures { λ r. ⌜ Leaves (wires-part (jobs-of (now (jobs .entry))) (cut 10 (rest-of (now (reader .entry))))) r (jobs-of (now (jobs .entry))) (wires-of (now (wires .exit))) ⌝ }
 {
@@ -51,7 +63,12 @@ fn wire_part(reader: &mut Reader<'_>, jobs: &JobTable, wires: &mut WireTable) ->
 }
 
 // The jobs, up to an empty line and the wires' part behind it, or up to the end of the sheet.
-fn job_lines(reader: &mut Reader<'_>, order: &[Column], jobs: &mut JobTable, wires: &mut WireTable) -> Result<(), SheetFault>
+fn job_lines(
+    reader: &mut Reader<'_>,
+    order: &[Column],
+    jobs: &mut JobTable,
+    wires: &mut WireTable,
+) -> Result<(), SheetFault>
     requires order { ⌜ length (now order) ≡ 4 ⌝ }
     requires fresh { ⌜ wires-of (now wires) ≡ [] ⌝ }
     ensures { λ r. ⌜ Leaves (jobs-from (now (order .entry)) (jobs-of (now (jobs .entry))) (cut 10 (rest-of (now (reader .entry))))) r (jobs-of (now (jobs .exit))) (wires-of (now (wires .exit))) ⌝ }
@@ -65,7 +82,11 @@ fn job_lines(reader: &mut Reader<'_>, order: &[Column], jobs: &mut JobTable, wir
     if reader.rest().len() == 0 {
         return Ok(());
     }
-    let fault = if jobs.is_full() { LineFault::TooManyJobs } else { LineFault::Unended };
+    let fault = if jobs.is_full() {
+        LineFault::TooManyJobs
+    } else {
+        LineFault::Unended
+    };
     Err(SheetFault::AtLine(2 + jobs.len(), fault))
 }
 

@@ -22,7 +22,11 @@ fn three_fields(line: &[u8]) -> Result<Wire, LineFault>
     let from = at(1, reader.number(255))?;
     let to = at(2, reader.number(255))?;
     let delay = at(3, reader.number(u32::MAX))?;
-    Ok(Wire { from: from as u8, to: to as u8, delay })
+    Ok(Wire {
+        from: from as u8,
+        to: to as u8,
+        delay,
+    })
 }
 
 // Takes the wire of a line into the table.

@@ -17,7 +17,7 @@ read-back (b ∷ bs) t h = go (outcome (cut 10 (b ∷ bs))) (sym (read-says (out
   where
     go : (w : Outcome (cut 10 (b ∷ bs))) → says w ≡ Ok t → Within t × Spelled (b ∷ bs) t
     go (spelled cs c u o W e) r = rw (← same-ok r)
-      (W, record { order = cs; four = o; with-part = c; is = sym (glue-cut 10 (b ∷ bs)) ∙ (ap (glue 10) e ∙ glue-lines (job-lines cs (u .jobs) ++ part c (u .wires))) })
+        (W, record { order = cs; four = o; with-part = c; is = sym (glue-cut 10 (b ∷ bs)) ∙ (ap (glue 10) e ∙ glue-lines (job-lines cs (u .jobs) ++ part c (u .wires))) })
     go (faulty a l q f s e k) r = err-not-ok r
 
 spelled-back : (bytes : List ℕ) (t : Tables) → Within t → Spelled bytes t → read bytes ≡ Ok t

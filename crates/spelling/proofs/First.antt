@@ -84,10 +84,13 @@ jobs-push : (js : List Job) (j : Job) → Within-jobs js → length js < 64 → 
 jobs-push js j Js h w = record { few = simp length-append (omega arith); each = all-push Within-job js j (Js .each) w }
 
 wires-push : (ws : List Wire) (w : Wire) → Within-wires ws → length ws < 256 → Within-wire w → leaving (w .from) ws < 4 → Within-wires (ws ++ (w ∷ []))
-wires-push ws w Ws h W g = record { few = simp length-append (omega arith); each = all-push Within-wire ws w (Ws .each) W;
-    four = λ p. rw (leaving-push p ws w) (by-bool (eqb (w .from) p)
+wires-push ws w Ws h W g = record {
+  few = simp length-append (omega arith);
+  each = all-push Within-wire ws w (Ws .each) W;
+  four = λ p. rw (leaving-push p ws w) (by-bool (eqb (w .from) p)
       (λ e. let z : leaving p ws < 4 = rw (eqb-true (w .from) p e) at g in rw e (omega arith))
-      (λ e. let z = Ws .four p in rw e (omega arith))) }
+      (λ e. let z = Ws .four p in rw e (omega arith)));
+}
 
 no-jobs : Within-jobs []
 no-jobs = record { few = omega arith; each = tt }
@@ -116,24 +119,24 @@ module _ (cs : List Column) (o : order-of-four cs ≡ true) where
           ((w : Wire) → Within-wires (ws ++ (w ∷ [])) → Outcome (lines-then (job-lines cs js ++ wire-lines (ws ++ (w ∷ []))) p)) → Outcome (lines-then (job-lines cs js ++ wire-lines ws) (more l p))
       go (Err f) e a on = faulty (at-wire cs js ws) (ended l) p f (o, Js, Ws) refl a
       go (Ok w) e a on =
-        let (few, t, W, four) = wire-line-back ws l w e in
-        rw (← t, ← wire-next cs js ws w p) (on w (wires-push ws w Ws few W four))
+          let (few, t, W, four) = wire-line-back ws l w e in
+          rw (← t, ← wire-next cs js ws w p) (on w (wires-push ws w Ws few W four))
 
   jobs-outcome : (js : List Job) → Within-jobs js → (p : Pieces) → Outcome (lines-then (job-lines cs js) p)
   jobs-outcome js Js (last []) = spelled cs false (record { jobs = js; wires = [] }) o (record { jobs = Js; wires = no-wires }) (ap (λ ls. lines-then ls (last [])) (sym (append-nil (job-lines cs js))))
   jobs-outcome js Js (last (x ∷ l)) = faulty (at-job cs js) (unended (x ∷ l)) (last []) _ (o, Js) refl (unended-first (ltb (length js) 64) TooManyJobs Unended)
   jobs-outcome js Js (more [] (last l)) = faulty (at-wire-names cs js) (unended l) (last []) WireNames (o, Js) (sym (lines-append (job-lines cs js) ([] ∷ []) (last l))) refl
   jobs-outcome js Js (more [] (more l p)) = by-bool (same l wire-names)
-    (λ e. rw (same-true l wire-names e, ← lines-append (job-lines cs js) (wire-lines []) p) (wires-outcome js Js [] no-wires p))
-    (λ e. faulty (at-wire-names cs js) (ended l) p WireNames (o, Js) (sym (lines-append (job-lines cs js) ([] ∷ []) (more l p))) (rw e))
+      (λ e. rw (same-true l wire-names e, ← lines-append (job-lines cs js) (wire-lines []) p) (wires-outcome js Js [] no-wires p))
+      (λ e. faulty (at-wire-names cs js) (ended l) p WireNames (o, Js) (sym (lines-append (job-lines cs js) ([] ∷ []) (more l p))) (rw e))
   jobs-outcome js Js (more (x ∷ l) p) = go (job-line cs js (x ∷ l)) refl (job-line-agrees cs js (x ∷ l) o) (λ j Js′. jobs-outcome (js ++ (j ∷ [])) Js′ p)
     where
       go : (r : Result Job LineFault) → job-line cs js (x ∷ l) ≡ r → Agrees r (job-checks cs js (x ∷ l)) →
           ((j : Job) → Within-jobs (js ++ (j ∷ [])) → Outcome (lines-then (job-lines cs (js ++ (j ∷ []))) p)) → Outcome (lines-then (job-lines cs js) (more (x ∷ l) p))
       go (Err f) e a on = faulty (at-job cs js) (ended (x ∷ l)) p f (o, Js) refl a
       go (Ok j) e a on =
-        let (few, t, w) = job-line-back cs js (x ∷ l) j o e in
-        rw (← t, ← job-next cs js j p) (on j (jobs-push js j Js few w))
+          let (few, t, w) = job-line-back cs js (x ∷ l) j o e in
+          rw (← t, ← job-next cs js j p) (on j (jobs-push js j Js few w))
 
 pub outcome : (p : Pieces) → Outcome p
 outcome (last l) = faulty at-names (unended l) (last []) JobNames tt refl refl
@@ -174,6 +177,7 @@ refused-without-bytes bytes = (go bytes, λ e. rw e)
     never : {p : Pieces} (w : Outcome p) → Err NoBytes ≡ says w → ⊥
     never (spelled cs c t o W e) r = err-not-ok r
     never (faulty a l q f s e k) r = let z : _≡_ {A = ℕ} 0 1 = cc in omega arith
+
     go : (bytes : List ℕ) → read bytes ≡ Err NoBytes → bytes ≡ []
     go [] h = refl
     go (b ∷ bs) h = absurd (never (outcome (cut 10 (b ∷ bs))) (sym h ∙ read-says (outcome (cut 10 (b ∷ bs)))))

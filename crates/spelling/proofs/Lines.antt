@@ -210,19 +210,24 @@ fields-back (c ∷ cs) (t ∷ ts) n j k d l h =
     record {
       is = rw (e, F .is);
       fits = λ b m. by-bool (eqb (place c) (place b))
-        (λ u. rw (← place-inj c b (eqb-true _ _ u)) (fits-same c i k s (P .fits)))
-        (λ u. F .fits b (rw u at m));
-      others = λ b m. let (u, v) = or-parts _ _ m in same-trans b j i k (P .others b (eqb-false _ _ u)) (F .others b v) }
+          (λ u. rw (← place-inj c b (eqb-true _ _ u)) (fits-same c i k s (P .fits)))
+          (λ u. F .fits b (rw u at m));
+      others = λ b m. let (u, v) = or-parts _ _ m in same-trans b j i k (P .others b (eqb-false _ _ u)) (F .others b v);
+    }
 
 fields-read : (cs : List Column) (n : ℕ) (j i : Job) → ((d : Column) → Fits d j) →
     (k : Job) × (fields cs (map (text j) cs) n i ≡ Ok k) × ((d : Column) → (has (map place cs) (place d) ≡ true) ⊎ Same d j i → Same d j k)
 fields-read [] n j i f = (i, refl, λ d. elim [ inl e ↦ absurd (false≢true e) | inr s ↦ s ])
 fields-read (c ∷ cs) n j i f =
     let (k, p, T) = put-reads c j i (f c) in
-    let (m, q, g) = fields-read cs (n + 1) j k f in
-    (m, rw p q, λ d. elim [
-      inl e ↦ by-bool (eqb (place c) (place d)) (λ u. g d (inr (rw (← place-inj c d (eqb-true _ _ u)) (T .here)))) (λ u. g d (inl (rw u at e)))
-    | inr s ↦ g d (inr (T .kept d s)) ])
+    let (m, q, g) = fields-read cs (n + 1) j k f in (
+      m,
+      rw p q,
+      λ d. elim [
+        | inl e ↦ by-bool (eqb (place c) (place d)) (λ u. g d (inr (rw (← place-inj c d (eqb-true _ _ u)) (T .here)))) (λ u. g d (inl (rw u at e)))
+        | inr s ↦ g d (inr (T .kept d s))
+      ],
+    )
 
 -- ## The texts of a line of values
 pub split-back : (n : ℕ) (l : List ℕ) (ts : List (List ℕ)) → split n l ≡ Ok ts → (all-of (cut 32 l) ≡ ts) × (length ts ≡ n)
@@ -253,9 +258,11 @@ job-line-back cs before l j o h =
     let v : k ≡ j = same-ok u in
     let O = order-from cs o in
     let F = fields-back cs ts 1 no-record j (O .once) (many ∙ sym (O .long)) (rw v at f) in
-    let P = F .fits Points (O .all Points) in
-    (ltb-true _ _ a, ap (join 32) (F .is ∙ sym e) ∙ join-cut 32 l,
-     record { letter = F .fits Proc (O .all Proc); argument = F .fits Arg (O .all Arg); urgency = F .fits Urg (O .all Urg); points = P .small; few = P .few; once = rw v at once })
+    let P = F .fits Points (O .all Points) in (
+      ltb-true _ _ a,
+      ap (join 32) (F .is ∙ sym e) ∙ join-cut 32 l,
+      record { letter = F .fits Proc (O .all Proc); argument = F .fits Arg (O .all Arg); urgency = F .fits Urg (O .all Urg); points = P .small; few = P .few; once = rw v at once },
+    )
 
 pub job-some : (cs : List Column) (before : List Job) (l : List ℕ) (j : Job) → job-line cs before l ≡ Ok j → empty l ≡ false
 job-some cs before l j h =

@@ -96,7 +96,7 @@ module _ (k : ℕ) where
 
   points-agree : (t : List ℕ) → Agrees (or-else (points t) (AtField k)) (field-checks Points k t)
   points-agree t = by-bool (same t (45 ∷ [])) (λ e. rw e)
-    (λ e. by-bool (leb (length (all-of (cut 44 t))) 8)
+      (λ e. by-bool (leb (length (all-of (cut 44 t))) 8)
       (λ f. rw (e, f) (agrees-given true (AtField k TooManyPoints) (or-else (each (number 255) (all-of (cut 44 t))) (AtField k)) (point-checks k (all-of (cut 44 t))) (λ _. each-agrees (all-of (cut 44 t)))))
       (λ f. rw (e, f)))
 
@@ -194,6 +194,7 @@ names-agree l = go (each column ts) (eqb (length ts) 4) (every is-name ts) (diff
   where
     ts : List (List ℕ)
     ts = all-of (cut 32 l)
+
     go : (r : Result (List Column) LineFault) (n e d : Bool) → Agrees r (must e JobNames ∷ []) → ((cs : List Column) → r ≡ Ok cs → order-of-four cs ≡ (n && d)) →
         Agrees (and-then r (λ cs. given (order-of-four cs) JobNames (Ok cs))) (must n JobNames ∷ (must e JobNames ∷ (must d JobNames ∷ [])))
     go (Ok cs) n false d a o = none-not-some (sym a)
@@ -213,11 +214,12 @@ job-line-agrees cs before l o =
   where
     ts : List (List ℕ)
     ts = all-of (cut 32 l)
+
     ends : length ts ≡ 4 → (j : Job) → fields cs ts 1 no-record ≡ Ok j → Agrees (given (distinct (j .points)) PointTwice (Ok j)) (must (once-each cs ts) PointTwice ∷ [])
     ends n j e =
-      let O = order-from cs o in
-      let once = fields-once cs ts 1 no-record j (O .once) (n ∙ sym (O .long)) e in
-      rw (once, O .all Points) (agrees-given (distinct (j .points)) PointTwice (Ok j) [] (λ _. refl))
+        let O = order-from cs o in
+        let once = fields-once cs ts 1 no-record j (O .once) (n ∙ sym (O .long)) e in
+        rw (once, O .all Points) (agrees-given (distinct (j .points)) PointTwice (Ok j) [] (λ _. refl))
 
 wired-agrees : (before : List Wire) (w : Wire) → ltb (length before) 256 ≡ true → Agrees (or-else (wired before w) wire-fault) (must (not (eqb (w .from) (w .to))) WireToItself ∷ (must (ltb (leaving (w .from) before) 4) FifthWire ∷ []))
 wired-agrees before w r = by-bool (eqb (w .from) (w .to)) (λ e. rw (r, e)) (λ e. by-bool (ltb (leaving (w .from) before) 4) (λ f. rw (r, e, f)) (λ f. rw (r, e, f)))

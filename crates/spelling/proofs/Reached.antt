@@ -81,5 +81,5 @@ pub spelled-read : (cs : List Column) (b : Bool) (t : Tables) → order-of-four 
 spelled-read cs b t o W =
     let ls = job-lines cs (t .jobs) ++ part b (t .wires) in
     let free : All (Free 10) ls = all-append (Free 10) (job-lines cs (t .jobs)) (part b (t .wires))
-          (free-names cs, all-map (Free 10) (job-text cs) (t .jobs) (all-weaker Within-job _ (free-job cs) (t .jobs) (W .jobs .each))) (free-part b (t .wires) (W .wires .each)) in
+    (free-names cs, all-map (Free 10) (job-text cs) (t .jobs) (all-weaker Within-job _ (free-job cs) (t .jobs) (W .jobs .each))) (free-part b (t .wires) (W .wires .each)) in
     rw (some-ended _ _, cut-ended ls free) (lines-read cs b t o W)

@@ -73,9 +73,10 @@ number-reads top n b h =
     rw (digits-decimal base-ten n s, plain-decimal n s, value-decimal base-ten n s, le-leb n top h)
 
 pub number-exactly-written : Number-exactly-written
-number-exactly-written top b t n =
-    ((λ h. let (e, l) = number-back top (omega arith) t n h in (sym e, l)),
-     (λ w. rw (w .0) (number-reads top n (omega arith) (w .1))))
+number-exactly-written top b t n = (
+  (λ h. let (e, l) = number-back top (omega arith) t n h in (sym e, l)),
+  (λ w. rw (w .0) (number-reads top n (omega arith) (w .1))),
+)
 
 -- a text of digits holds no byte that is no digit
 free-digits : (c : ℕ) → (In 48 57 c → ⊥) → (t : List ℕ) → allDigits t ≡ true → Free c t
@@ -92,8 +93,8 @@ letter-back (a ∷ (b ∷ t)) x h = err-not-ok h
 letter-back (b ∷ []) x h = by-bool (eqb b 84)
     (λ e. let z : 84 ≡ x = same-ok (rw e at h) in (rw (← z, eqb-true b 84 e), inl (sym z)))
     (λ e. by-bool (eqb b 83)
-      (λ f. let z : 83 ≡ x = same-ok (rw (e, f) at h) in (rw (← z, eqb-true b 83 f), inr (sym z)))
-      (λ f. err-not-ok (rw (e, f) at h)))
+    (λ f. let z : 83 ≡ x = same-ok (rw (e, f) at h) in (rw (← z, eqb-true b 83 f), inr (sym z)))
+    (λ f. err-not-ok (rw (e, f) at h)))
 
 pub letter-reads : (x : ℕ) → (x ≡ 84) ⊎ (x ≡ 83) → letter (x ∷ []) ≡ Ok x
 letter-reads x (inl e) = rw e
@@ -114,22 +115,24 @@ pub points-parts : (t ps : List ℕ) → points t ≡ Ok ps →
 points-parts t ps h = by-bool (same t (45 ∷ []))
     (λ e. inl (e, sym (same-ok (rw e at h))))
     (λ e.
-      let (f, g) = ok-given (leb (length (all-of (cut 44 t))) 8) TooManyPoints (each (number 255) (all-of (cut 44 t))) ps (rw e at h) in
-      inr (e, leb-true _ _ f, g))
+    let (f, g) = ok-given (leb (length (all-of (cut 44 t))) 8) TooManyPoints (each (number 255) (all-of (cut 44 t))) ps (rw e at h) in
+    inr (e, leb-true _ _ f, g))
 
 pub points-back : (t ps : List ℕ) → points t ≡ Ok ps → (points-text ps ≡ t) × Few-small ps
 points-back t ps h = go (points-parts t ps h)
   where
     ts : List (List ℕ)
     ts = all-of (cut 44 t)
+
     go : ((same t (45 ∷ []) ≡ true) × (ps ≡ [])) ⊎ ((same t (45 ∷ []) ≡ false) × (length ts ≤ 8) × (each (number 255) ts ≡ Ok ps)) → (points-text ps ≡ t) × Few-small ps
     go (inl (e, z)) = rw z (sym (same-true t _ e), record { small = tt; few = omega arith })
     go (inr (e, k, g)) =
-      let w = each-back (number 255) decimal (λ t x k. number-back 255 (omega arith) t x k .0) ts ps g in
-      let n : length ps ≡ length ts = sym (length-map ps decimal) ∙ ap length w in
-      let s = some-piece (cut 44 t) in
-      (joined-text ps (omega arith) ∙ (ap (join 44) w ∙ join-cut 44 t),
-       record { small = each-all (number 255) (λ p. p ≤ 255) (λ t x k. number-back 255 (omega arith) t x k .1) ts ps g; few = omega arith })
+        let w = each-back (number 255) decimal (λ t x k. number-back 255 (omega arith) t x k .0) ts ps g in
+        let n : length ps ≡ length ts = sym (length-map ps decimal) ∙ ap length w in
+        let s = some-piece (cut 44 t) in (
+          joined-text ps (omega arith) ∙ (ap (join 44) w ∙ join-cut 44 t),
+          record { small = each-all (number 255) (λ p. p ≤ 255) (λ t x k. number-back 255 (omega arith) t x k .1) ts ps g; few = omega arith },
+        )
 
 free-pieces : (c : ℕ) → (In 48 57 c → ⊥) → (ps : List ℕ) → All (λ p. p ≤ 255) ps → All (Free c) (map decimal ps)
 free-pieces c h ps a = all-map (Free c) decimal ps (all-weaker (λ p. p ≤ 255) _ (λ p k. free-decimal c h p (omega arith)) ps a)
@@ -141,13 +144,13 @@ points-reads (p ∷ ps) P =
     let few = P .few in
     let c : all-of (cut 44 (join 44 (map decimal (p ∷ ps)))) ≡ map decimal (p ∷ ps) = cut-join 44 (map decimal (p ∷ ps)) (omega arith) (free-pieces 44 (λ i. omega arith) (p ∷ ps) small) in
     by-bool (same (join 44 (map decimal (p ∷ ps))) (45 ∷ []))
-      (λ e.
-        let d : all-of (cut 44 (join 44 (map decimal (p ∷ ps)))) ≡ (45 ∷ []) ∷ [] = ap (λ t. all-of (cut 44 t)) (same-true (join 44 (map decimal (p ∷ ps))) (45 ∷ []) e) in
-        let r = number-reads 255 p (omega arith) (small .0) in
-        let s : decimal p ≡ 45 ∷ [] = cc in
-        let u : number 255 (45 ∷ []) ≡ Ok p = rw s at r in
-        err-not-ok {e = NoNumber} u)
-      (λ e. rw (e, c, length-map, le-leb (length (p ∷ ps)) 8 few) (each-reads (number 255) decimal (p ∷ ps) (all-weaker (λ p. p ≤ 255) _ (λ p k. number-reads 255 p (omega arith) k) (p ∷ ps) small)))
+    (λ e.
+    let d : all-of (cut 44 (join 44 (map decimal (p ∷ ps)))) ≡ (45 ∷ []) ∷ [] = ap (λ t. all-of (cut 44 t)) (same-true (join 44 (map decimal (p ∷ ps))) (45 ∷ []) e) in
+    let r = number-reads 255 p (omega arith) (small .0) in
+    let s : decimal p ≡ 45 ∷ [] = cc in
+    let u : number 255 (45 ∷ []) ≡ Ok p = rw s at r in
+    err-not-ok {e = NoNumber} u)
+    (λ e. rw (e, c, length-map, le-leb (length (p ∷ ps)) 8 few) (each-reads (number 255) decimal (p ∷ ps) (all-weaker (λ p. p ≤ 255) _ (λ p k. number-reads 255 p (omega arith) k) (p ∷ ps) small)))
 
 pub free-points : (c : ℕ) → (In 48 57 c → ⊥) → (c ≡ 44 → ⊥) → (c ≡ 45 → ⊥) → (ps : List ℕ) → Few-small ps → Free c (points-text ps)
 free-points c h k m [] P = (ne-eqb 45 c (λ e. m (sym e)), tt)

@@ -11,7 +11,10 @@ impl<T: Copy, const N: usize> FixedList<T, N> {
     pub fn new(blank: T) -> Self
         ensures { λ r. ⌜ list-of r ≡ [] ⌝ }
     {
-        FixedList { items: [blank; N], len: 0 }
+        FixedList {
+            items: [blank; N],
+            len: 0,
+        }
     }
 
     pub fn len(&self) -> usize

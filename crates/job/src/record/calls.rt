@@ -56,11 +56,21 @@ impl JobRecord {
     pub fn blank() -> JobRecord
         ensures { λ r. ⌜ job-of r ≡ no-record ⌝ }
     {
-        JobRecord { letter: 'T', argument: 0, urgency: 0, points: FixedList::new(0) }
+        JobRecord {
+            letter: 'T',
+            argument: 0,
+            urgency: 0,
+            points: FixedList::new(0),
+        }
     }
 
     // A record of these parts, if the letter, the urgency and the points are such as a record has.
-    pub fn new(letter: char, argument: u32, urgency: u8, points: FixedList<u8, 8>) -> Result<JobRecord, JobFault>
+    pub fn new(
+        letter: char,
+        argument: u32,
+        urgency: u8,
+        points: FixedList<u8, 8>,
+    ) -> Result<JobRecord, JobFault>
         ensures { λ r. ⌜ Gives (assembled (record { letter = letter; argument = argument; urgency = urgency; points = list-of points })) r ⌝ }
     {
         let letter = letter_within(letter)?;
@@ -68,7 +78,12 @@ impl JobRecord {
         if !all_different(points.as_slice()) {
             return Err(JobFault::PointTwice);
         }
-        Ok(JobRecord { letter, argument, urgency, points })
+        Ok(JobRecord {
+            letter,
+            argument,
+            urgency,
+            points,
+        })
     }
 
     // The record of a draft, refused by its first fault: letter, urgency, number of points, points from the left, a point twice.
@@ -115,6 +130,11 @@ impl JobRecord {
         for p in self.points.as_slice() {
             points.push(u32::from(*p))?;
         }
-        Ok(JobDraft { letter: self.letter, argument: self.argument, urgency: u32::from(self.urgency), points })
+        Ok(JobDraft {
+            letter: self.letter,
+            argument: self.argument,
+            urgency: u32::from(self.urgency),
+            points,
+        })
     }
 }

@@ -13,7 +13,9 @@ impl JobTable {
     pub fn new() -> JobTable
         ensures { λ r. ⌜ jobs-of r ≡ [] ⌝ }
     {
-        JobTable { jobs: FixedList::new(JobRecord::blank()) }
+        JobTable {
+            jobs: FixedList::new(JobRecord::blank()),
+        }
     }
 
     pub fn len(&self) -> usize

@@ -13,7 +13,14 @@ impl WireTable {
     pub fn new() -> WireTable
         ensures { λ r. ⌜ wires-of r ≡ [] ⌝ }
     {
-        WireTable { wires: FixedList::new(Wire { from: 0, to: 0, delay: 0 }), leaving: [0; 256] }
+        WireTable {
+            wires: FixedList::new(Wire {
+                from: 0,
+                to: 0,
+                delay: 0,
+            }),
+            leaving: [0; 256],
+        }
     }
 
     pub fn len(&self) -> usize

@@ -23,7 +23,11 @@ impl<'a> Reader<'a> {
         ensures rest { λ r. ⌜ rest-of r ≡ now (bytes .entry) ⌝ }
         ensures ready { λ r. ⌜ r .done ≡ false ⌝ }
     {
-        Reader { bytes, place: 0, done: false }
+        Reader {
+            bytes,
+            place: 0,
+            done: false,
+        }
     }
 
     // Where the next piece begins, counted from the first byte.

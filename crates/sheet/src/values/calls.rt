@@ -17,7 +17,12 @@ impl Values {
     pub(crate) fn none() -> Values
         ensures { λ r. ⌜ values-of r ≡ no-record ⌝ }
     {
-        Values { letter: 'T', argument: 0, urgency: 0, points: FixedList::new(0) }
+        Values {
+            letter: 'T',
+            argument: 0,
+            urgency: 0,
+            points: FixedList::new(0),
+        }
     }
 
     // Takes in the next field of the line, which is of this column.

@@ -12,7 +12,8 @@ returns-then-any-marked c =
 
 pub loop-number-again : need.loop-number-again
 loop-number-again c =
-    let l = c .loop-number .inv .0 in
-    (omega arith,
-     unmarked-step (c .args .marks .now) (c .args .jobs .now) (c .loop-number .number) (c .index-jobs-number .result) (c .points .result .now)
-     (omega arith) l (c .index-jobs-number .is) (c .points .ensures .value) (c .if-any-marked .ensures tt) (c .loop-number .inv .1))
+    let l = c .loop-number .inv .0 in (
+      omega arith,
+      unmarked-step (c .args .marks .now) (c .args .jobs .now) (c .loop-number .number) (c .index-jobs-number .result) (c .points .result .now)
+          (omega arith) l (c .index-jobs-number .is) (c .points .ensures .value) (c .if-any-marked .ensures tt) (c .loop-number .inv .1),
+    )

@@ -23,11 +23,11 @@ loop-job-again c =
     let here = job-read items i (c .job-item .result) (c .loop-job-test .taken) (c .job-item .is) in
     let answer = c .in-Ok .ensures tt .answer .0 long .1 in
     let row = pushed-room 64 (λ y. y) (list-of (c .loop-job .rows)) (c .in-Ok .clash) (c .push .result) (list-of (c .push .last .self)) (omega (arith, rows .0)) (c .push .ensures) in
-    let next = pushed-room 64 job-of (jobs-of (c .loop-job .earlier)) (c .job-item .result) (c .push-in-loop-job .result) (jobs-of (c .push-in-loop-job .last .self)) (omega arith) (c .push-in-loop-job .ensures) in
-    ( ap length (c .in-Ok .ensures tt .blanked .0 long) ∙ length-replicate {A = ℕ} 256 0
-    , earlier-more js (jobs-of (c .loop-job .earlier)) (jobs-of (c .push-in-loop-job .last .self)) i (job-of (c .job-item .result)) (omega arith) before next here
-    , rows-more js i (list-of (c .loop-job .rows)) (list-of (c .push .last .self)) (c .in-Ok .clash) rows row
-        (clash-here js (jobs-of (c .loop-job .earlier)) i (draft-of (c .in-Continue-draft .draft)) (c .in-Ok .clash) before (c .in-Continue-draft .ensures tt .same ∙ sym here) answer)
+    let next = pushed-room 64 job-of (jobs-of (c .loop-job .earlier)) (c .job-item .result) (c .push-in-loop-job .result) (jobs-of (c .push-in-loop-job .last .self)) (omega arith) (c .push-in-loop-job .ensures) in (
+      ap length (c .in-Ok .ensures tt .blanked .0 long) ∙ length-replicate {A = ℕ} 256 0,
+      earlier-more js (jobs-of (c .loop-job .earlier)) (jobs-of (c .push-in-loop-job .last .self)) i (job-of (c .job-item .result)) (omega arith) before next here,
+      rows-more js i (list-of (c .loop-job .rows)) (list-of (c .push .last .self)) (c .in-Ok .clash) rows row
+          (clash-here js (jobs-of (c .loop-job .earlier)) i (draft-of (c .in-Continue-draft .draft)) (c .in-Ok .clash) before (c .in-Continue-draft .ensures tt .same ∙ sym here) answer),
     )
 
 pub returns : need.returns

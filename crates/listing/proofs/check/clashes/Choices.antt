@@ -8,6 +8,6 @@ use Rattle.listing.proofs.check.clashes.Given as given
 
 abbrev pub Inv-loop-job : given.InvT-loop-job
 Inv-loop-job l =
-  (length (l .marks) ≡ 256)
-  × (jobs-of (l .earlier) ≡ take (l .job-index) (map job-of (l .job-items)))
-  × Rows-to (map job-of (l .job-items)) (l .job-index) (list-of (l .rows))
+    (length (l .marks) ≡ 256)
+    × (jobs-of (l .earlier) ≡ take (l .job-index) (map job-of (l .job-items)))
+    × Rows-to (map job-of (l .job-items)) (l .job-index) (list-of (l .rows))

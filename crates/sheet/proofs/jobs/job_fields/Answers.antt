@@ -12,8 +12,8 @@ returns-in-Break-at c =
     let p = err-from-errBy (c .from-residual .result) (c .from-residual .ensures .1) in
     let q = placed-err _ (c .put .result) (c .in-Break-at .field-0 .0) (c .in-Break-at .ensures tt) in
     rw (p .1, p .2, q .1)
-      (fields-refused (c .args .order .now) (c .loop-i .i) (values-of (c .loop-i .values)) _ (pieces-of 32 (c .loop-i .reader)) (c .in-Break-at .field-0 .0 .1)
-       (omega arith) (c .pre .order) (c .loop-i .inv) (cases-at-err _ _ (c .in-Break-at .field-0 .0 .1) (q .0) (c .put .ensures .puts) .0))
+    (fields-refused (c .args .order .now) (c .loop-i .i) (values-of (c .loop-i .values)) _ (pieces-of 32 (c .loop-i .reader)) (c .in-Break-at .field-0 .0 .1)
+    (omega arith) (c .pre .order) (c .loop-i .inv) (cases-at-err _ _ (c .in-Break-at .field-0 .0 .1) (q .0) (c .put .ensures .puts) .0))
 
 pub loop-i-again : need.loop-i-again
 loop-i-again c =

@@ -10,5 +10,5 @@ use Rattle.sheet.proofs.jobs.job_fields.Given as given
 
 abbrev pub Inv-loop-i : given.InvT-loop-i
 Inv-loop-i l =
-  (length (pieces-of 32 (l .reader)) + l .i ≡ 4)
-  × (fields (drop (l .i) (l .order)) (pieces-of 32 (l .reader)) (l .i + 1) (values-of (l .values)) ≡ fields (l .order) (all-of (cut 32 (l .line))) 1 no-record)
+    (length (pieces-of 32 (l .reader)) + l .i ≡ 4)
+    × (fields (drop (l .i) (l .order)) (pieces-of 32 (l .reader)) (l .i + 1) (values-of (l .values)) ≡ fields (l .order) (all-of (cut 32 (l .line))) 1 no-record)

@@ -14,10 +14,11 @@ pub returns-then-b-gt57 : need.returns-then-b-gt57
 returns-then-b-gt57 c = number-none (c .args .top) (c .args .text .now) (c .loop-b .b-index) (c .loop-b-test .taken) (λ d. omega arith)
 
 pub loop-b-again : need.loop-b-again
-loop-b-again c =
-    (digits-next (c .args .text .now) (c .loop-b .b-index) (c .loop-b-test .taken) (c .loop-b .inv .0) (c .if-b-lt48 .left, c .if-b-gt57 .left),
-     near-next (c .args .top) (c .loop-b .n) (c .args .text .now) (c .loop-b .b-index) (c .loop-b-test .taken) (c .if-b-lt48 .left, c .if-b-gt57 .left) (c .loop-b .inv .1) (c .if-n-most .n)
-       (elim (c .if-n-most .came) [ then-n-most w ↦ inl (w .if-n-most .taken, w .n-is) | else-n-most w ↦ inr (w .if-n-most .left, w .n-is) ]))
+loop-b-again c = (
+  digits-next (c .args .text .now) (c .loop-b .b-index) (c .loop-b-test .taken) (c .loop-b .inv .0) (c .if-b-lt48 .left, c .if-b-gt57 .left),
+  near-next (c .args .top) (c .loop-b .n) (c .args .text .now) (c .loop-b .b-index) (c .loop-b-test .taken) (c .if-b-lt48 .left, c .if-b-gt57 .left) (c .loop-b .inv .1) (c .if-n-most .n)
+      (elim (c .if-n-most .came) [ then-n-most w ↦ inl (w .if-n-most .taken, w .n-is) | else-n-most w ↦ inr (w .if-n-most .left, w .n-is) ]),
+)
 
 -- the first digit is no 0 unless it is the only one
 pub returns-then-n-most-2 : need.returns-then-n-most-2

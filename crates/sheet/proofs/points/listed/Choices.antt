@@ -10,8 +10,8 @@ use Rattle.sheet.proofs.points.listed.Given as given
 
 abbrev pub Inv-loop-piece : given.InvT-loop-piece
 Inv-loop-piece l =
-  (length (list-of (l .list)) + length (pieces-of 44 (l .reader)) ≤ 8)
-  × (onward (number 255) (list-of (l .list)) (pieces-of 44 (l .reader)) ≡ each (number 255) (all-of (cut 44 (l .text))))
+    (length (list-of (l .list)) + length (pieces-of 44 (l .reader)) ≤ 8)
+    × (onward (number 255) (list-of (l .list)) (pieces-of 44 (l .reader)) ≡ each (number 255) (all-of (cut 44 (l .text))))
 
 abbrev pub μ-loop-piece : given.MeasureT-loop-piece
 μ-loop-piece l = length (pieces-of 44 (l .reader))

@@ -10,8 +10,8 @@ use Rattle.sheet.proofs.read.job_lines.Given as given
 
 abbrev pub Inv-loop-line : given.InvT-loop-line
 Inv-loop-line l =
-  (wires-of (l .wires) ≡ [])
-  × (jobs-from (l .order) (jobs-of (l .jobs)) (cut 10 (rest-of (l .reader))) ≡ jobs-from (l .order) (jobs-of (l .entry .jobs)) (cut 10 (rest-of (l .entry .reader))))
+    (wires-of (l .wires) ≡ [])
+    × (jobs-from (l .order) (jobs-of (l .jobs)) (cut 10 (rest-of (l .reader))) ≡ jobs-from (l .order) (jobs-of (l .entry .jobs)) (cut 10 (rest-of (l .entry .reader))))
 
 abbrev pub μ-loop-line : given.MeasureT-loop-line
 μ-loop-line l = length (rest-of (l .reader))

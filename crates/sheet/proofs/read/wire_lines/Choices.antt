@@ -10,7 +10,7 @@ use Rattle.sheet.proofs.read.wire_lines.Given as given
 
 abbrev pub Inv-loop-line : given.InvT-loop-line
 Inv-loop-line l =
-  wires-from (jobs-of (l .jobs)) (wires-of (l .wires)) (cut 10 (rest-of (l .reader))) ≡ wires-from (jobs-of (l .jobs)) (wires-of (l .entry .wires)) (cut 10 (rest-of (l .entry .reader)))
+    wires-from (jobs-of (l .jobs)) (wires-of (l .wires)) (cut 10 (rest-of (l .reader))) ≡ wires-from (jobs-of (l .jobs)) (wires-of (l .entry .wires)) (cut 10 (rest-of (l .entry .reader)))
 
 abbrev pub μ-loop-line : given.MeasureT-loop-line
 μ-loop-line l = length (rest-of (l .reader))

@@ -23,10 +23,10 @@ returns-in-Break-push c =
     let ws = wires-of (c .args .wires .now) in
     let line = wire-line-is ws (c .args .line .now) (sym (c .if-is-full .ensures tt)) (split-ok 3 (c .args .line .now) (c .in-Continue-expect-fields .ensures tt) .0) in
     let e = c .in-Break-push .ensures tt in
-    rw (p .1, p .2)
-      ( second-is (wire-fields (all-of (cut 32 (c .args .line .now)))) (λ w. or-else (wired ws w) wire-fault) line (c .in-Continue-wire .wire) _ (sym (c .in-Continue-wire .ensures tt)) (ap (λ r. or-else r wire-fault) (e .0))
-      , e .1
-      )
+    rw (p .1, p .2) (
+      second-is (wire-fields (all-of (cut 32 (c .args .line .now)))) (λ w. or-else (wired ws w) wire-fault) line (c .in-Continue-wire .wire) _ (sym (c .in-Continue-wire .ensures tt)) (ap (λ r. or-else r wire-fault) (e .0)),
+      e .1,
+    )
 
 pub returns : need.returns
 returns c =

@@ -34,7 +34,7 @@ returns c =
     let n : length (vec-items (c .loop-p .points)) ≤ 8 = rw (e, ← c .as-slice-p-items .ensures .value) (c .as-slice-p-items .ensures .bound) in
     let d : distinct (vec-items (c .loop-p .points)) ≡ true = rw e (c .args .self .now .once) in
     let w = c .args .self .now .urgent in
-    record
-      { same = rw (e, u)
-      ; admitted = admitted-within (c .args .self .now .letter) (c .args .self .now .argument) (c .from-2 .result) (vec-items (c .loop-p .points)) (c .args .self .now .«from_a») (c .args .self .now .«to_z») (omega arith) n (c .loop-p .inv .1) d
-      }
+    record {
+      same = rw (e, u);
+      admitted = admitted-within (c .args .self .now .letter) (c .args .self .now .argument) (c .from-2 .result) (vec-items (c .loop-p .points)) (c .args .self .now .«from_a») (c .args .self .now .«to_z») (omega arith) n (c .loop-p .inv .1) d;
+    }

@@ -9,5 +9,5 @@ use Rattle.job.proofs.record.calls.points_within.Given as given
 
 abbrev pub Inv-loop-p : given.InvT-loop-p
 Inv-loop-p l =
-  (list-of (l .list) ≡ take (l .p-index) (l .points))
-  × (every (λ (p : ℕ). leb p 255) (l .points) ≡ every (λ (p : ℕ). leb p 255) (drop (l .p-index) (l .points)))
+    (list-of (l .list) ≡ take (l .p-index) (l .points))
+    × (every (λ (p : ℕ). leb p 255) (l .points) ≡ every (λ (p : ℕ). leb p 255) (drop (l .p-index) (l .points)))

@@ -27,13 +27,15 @@ ghost-self c =
     let ws = list-of (c .args .self .now .wires) in
     let w = c .args .wire in
     let e = pushed-room 256 (λ y. y) ws w (c .push .result) (list-of (c .push .last .self)) (leb-false _ _ (sym (c .if-is-full .ensures tt))) (c .push .ensures) in
-    let o : every leads-on (list-of (c .push .last .self)) ≡ true = rw e (onward-push ws w (c .args .self .now .leaving) (c .args .self .now .onward) (c .if-wire .left)) in
-    (ap tally e ∙ counted-push ws w (c .args .self .now .leaving) (c .args .self .now .counted) (search needs),
-     (o, (four-push ws w (c .args .self .now .leaving) (c .args .self .now .four) (c .if-count-ge4 .left), tt)))
+    let o : every leads-on (list-of (c .push .last .self)) ≡ true = rw e (onward-push ws w (c .args .self .now .leaving) (c .args .self .now .onward) (c .if-wire .left)) in (
+      ap tally e ∙ counted-push ws w (c .args .self .now .leaving) (c .args .self .now .counted) (search needs),
+      (o, (four-push ws w (c .args .self .now .leaving) (c .args .self .now .four) (c .if-count-ge4 .left), tt)),
+    )
 
 pub returns : need.returns
 returns c =
     let ws = list-of (c .args .self .now .wires) in
-    let w = c .args .wire in
-    (wired-well ws w (c .args .self .now .leaving) (sym (c .if-is-full .ensures tt)) (c .if-wire .left) (c .args .self .now .counted) (search needs) (c .if-count-ge4 .left),
-     pushed-room 256 (λ y. y) ws w (c .push .result) (list-of (c .push .last .self)) (leb-false _ _ (sym (c .if-is-full .ensures tt))) (c .push .ensures))
+    let w = c .args .wire in (
+      wired-well ws w (c .args .self .now .leaving) (sym (c .if-is-full .ensures tt)) (c .if-wire .left) (c .args .self .now .counted) (search needs) (c .if-count-ge4 .left),
+      pushed-room 256 (λ y. y) ws w (c .push .result) (list-of (c .push .last .self)) (leb-false _ _ (sym (c .if-is-full .ensures tt))) (c .push .ensures),
+    )
