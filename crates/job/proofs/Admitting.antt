@@ -14,7 +14,7 @@ use Rattle.job.specs.declared.fault.FieldFault.{FieldFault}
 use Rattle.job.specs.declared.fault.FieldFault.the-variants.{AboveRange}
 use Rattle.job.specs.declared.fault.JobFault.{JobFault}
 use Rattle.job.specs.declared.fault.JobFault.the-variants.{Field, PointTwice}
-use Rattle.job.specs.Admitted.{lettered, calm, bounded, admitted, assembled}
+use Rattle.job.specs.Admitted.{letter-within, urgency-within, points-within, admitted, assembled}
 use Rattle.job.specs.Fixed.{Pushed}
 use Rattle.job.specs.Lists.{every, distinct}
 use Rattle.job.specs.Plain.{Job}
@@ -34,10 +34,10 @@ same-job : (a a′ b c c′ : ℕ) (d : List ℕ) → a ≡ a′ → c ≡ c′ 
 same-job a a′ b c c′ d p q = rw (p, q)
 
 module _ (l a u : ℕ) (ps : List ℕ) (m v : ℕ) where
-  pub assembled-twice : Ok m ≡ lettered l → Ok v ≡ calm u → distinct ps ≡ false → assembled (record { letter = l; argument = a; urgency = u; points = ps }) ≡ Err PointTwice
+  pub assembled-twice : Ok m ≡ letter-within l → Ok v ≡ urgency-within u → distinct ps ≡ false → assembled (record { letter = l; argument = a; urgency = u; points = ps }) ≡ Err PointTwice
   assembled-twice p q d = rw (← p, ← q, d)
 
-  pub assembled-whole : Ok m ≡ lettered l → Ok v ≡ calm u → distinct ps ≡ true → assembled (record { letter = l; argument = a; urgency = u; points = ps }) ≡ Ok (record { letter = m; argument = a; urgency = v; points = ps })
+  pub assembled-whole : Ok m ≡ letter-within l → Ok v ≡ urgency-within u → distinct ps ≡ true → assembled (record { letter = l; argument = a; urgency = u; points = ps }) ≡ Ok (record { letter = m; argument = a; urgency = v; points = ps })
   assembled-whole p q d = rw (← p, ← q, d) (ap Ok (same-job l m a u v ps (sym (passes-same _ _ l m p)) (sym (passes-same _ _ u v q))))
 
 -- room for one more
@@ -46,10 +46,10 @@ pushed-room n f was x (Ok t) is h p = p .1
 pushed-room n f was x (Err t) is h p = absurd (let k = p .1 in omega arith)
 
 module _ (ps : List ℕ) (i : ℕ) where
-  pub bounded-fails : length ps ≤ 8 → every (λ (p : ℕ). leb p 255) ps ≡ every (λ (p : ℕ). leb p 255) (drop i ps) → i < length ps → 255 < getD ps i 0 → bounded ps ≡ Err (AboveRange 255)
+  pub bounded-fails : length ps ≤ 8 → every (λ (p : ℕ). leb p 255) ps ≡ every (λ (p : ℕ). leb p 255) (drop i ps) → i < length ps → 255 < getD ps i 0 → points-within ps ≡ Err (AboveRange 255)
   bounded-fails few e h k = let z = e ∙ every-fails (λ (p : ℕ). leb p 255) ps i 0 h (lt-leb _ _ k) in rw (le-leb (length ps) 8 few, z)
 
-  pub bounded-holds : length ps ≤ 8 → every (λ (p : ℕ). leb p 255) ps ≡ every (λ (p : ℕ). leb p 255) (drop i ps) → length ps ≤ i → (qs : List ℕ) → qs ≡ take i ps → bounded ps ≡ Ok qs
+  pub bounded-holds : length ps ≤ 8 → every (λ (p : ℕ). leb p 255) ps ≡ every (λ (p : ℕ). leb p 255) (drop i ps) → length ps ≤ i → (qs : List ℕ) → qs ≡ take i ps → points-within ps ≡ Ok qs
   bounded-holds few e h qs k = let z = e ∙ at-drop-all (every (λ (p : ℕ). leb p 255)) ps i h in rw (le-leb (length ps) 8 few, z) (ap Ok (sym (k ∙ take-all i ps h)))
 
 then-same : {A B E F : Type 0} (r : Result A E) (f : E → F) (s : Result B F) (k : B) → and-then (or-else r f) (λ _. s) ≡ Ok k → s ≡ Ok k
@@ -59,9 +59,9 @@ then-same (Err e) f s k h = absurd (let z : _≡_ {A = ℕ} 0 1 = cc in omega ar
 -- what is admitted is unchanged
 pub admitted-same : (j k : Job) → admitted j ≡ Ok k → k ≡ j
 admitted-same j k h =
-    let p = then-same (lettered (j .letter)) Field _ k h in
-    let q = then-same (calm (j .urgency)) Field _ k p in
-    let r = then-same (bounded (j .points)) Field _ k q in
+    let p = then-same (letter-within (j .letter)) Field _ k h in
+    let q = then-same (urgency-within (j .urgency)) Field _ k p in
+    let r = then-same (points-within (j .points)) Field _ k q in
     passes-same (distinct (j .points)) PointTwice j k (sym r)
 
 -- a job within all limits

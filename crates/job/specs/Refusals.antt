@@ -17,15 +17,15 @@ reason-of (AboveRange top) = 2
 reason-of UnknownLetter = 3
 reason-of TooManyPoints = 4
 
--- a refusal that has only a number
-abbrev pub plain-refusal : ℕ → Refusal
-plain-refusal n = record { number = n; line = 0; field = 0; reason = 0 }
+-- a refusal without field and reason
+abbrev pub line-refusal : ℕ → ℕ → Refusal
+line-refusal n line = record { number = n; line = line; field = 0; reason = 0 }
 
 -- a preview's refusals have no line and no field
 abbrev pub preview-refusal : PreviewFault → Refusal
-preview-refusal WrongLength = plain-refusal 13
+preview-refusal WrongLength = line-refusal 13 0
 preview-refusal (Candidate (Field e)) = record { number = 4; line = 0; field = 0; reason = reason-of e }
-preview-refusal (Candidate PointTwice) = plain-refusal 5
+preview-refusal (Candidate PointTwice) = line-refusal 5 0
 
 -- how a refusal is written: its four numbers with a space between two
 abbrev pub refusal-values : Refusal → List ℕ

@@ -3,7 +3,7 @@ pub mod distinct;
 pub mod draft;
 pub mod fault;
 pub mod fixed;
-pub mod marks;
+mod marks;
 pub mod preview;
 pub mod record;
 pub mod refusal;

@@ -4,8 +4,8 @@ ghost use lib.ListN.{length, replicate};
 ghost use Rattle.job.specs.Preview.{blank-marks, Marked};
 
 // Lent marks that are blank again once the guard ends.
-pub struct MarkGuard<'a> {
-    pub marks: &'a mut [u8],
+pub(crate) struct MarkGuard<'a> {
+    pub(crate) marks: &'a mut [u8],
 }
 
 impl Drop for MarkGuard<'_> {
@@ -18,7 +18,7 @@ impl Drop for MarkGuard<'_> {
 }
 
 // Makes every mark blank.
-pub fn blank(marks: &mut [u8])
+pub(crate) fn blank(marks: &mut [u8])
     ensures { λ _. ⌜ now (marks .exit) ≡ replicate (length (now (marks .entry))) 0 ⌝ }
 {
     for m in marks.iter_mut() {
@@ -27,7 +27,7 @@ pub fn blank(marks: &mut [u8])
 }
 
 // Marks the points on 256 blank marks.
-pub fn mark(marks: &mut [u8], points: &[u8])
+pub(crate) fn mark(marks: &mut [u8], points: &[u8])
     requires { ⌜ now marks ≡ blank-marks ⌝ }
     ensures long { λ _. ⌜ length (now (marks .exit)) ≡ 256 ⌝ }
     ensures marked { λ _. ⌜ Marked (now (marks .exit)) (now (points .entry)) ⌝ }

@@ -1,6 +1,6 @@
 ghost use mathlib.Core.Path.{_≡_};
 ghost use Rattle.std.specs.declared.option.Option.the-variants.{Some};
-ghost use Rattle.job.specs.Refusals.{reason-of, preview-refusal, refusal-values};
+ghost use Rattle.job.specs.Refusals.{reason-of, line-refusal, preview-refusal, refusal-values};
 use crate::fault::FieldFault;
 use crate::fault::JobFault;
 use crate::fault::PreviewFault;
@@ -13,6 +13,20 @@ pub struct Refusal {
     pub line: usize,
     pub field: usize,
     pub reason: u8,
+}
+
+impl Refusal {
+    // A refusal without field and reason.
+    pub fn at_line(number: u8, line: usize) -> Refusal
+        ensures { λ r. ⌜ r ≡ line-refusal number line ⌝ }
+    {
+        Refusal {
+            number,
+            line,
+            field: 0,
+            reason: 0,
+        }
+    }
 }
 
 pub impl fmt::Display for Refusal as RefusalDisplay {
@@ -45,24 +59,14 @@ impl PreviewFault {
         ensures { λ r. ⌜ r ≡ preview-refusal self ⌝ }
     {
         match self {
-            PreviewFault::WrongLength => Refusal {
-                number: 13,
-                line: 0,
-                field: 0,
-                reason: 0,
-            },
+            PreviewFault::WrongLength => Refusal::at_line(13, 0),
             PreviewFault::Candidate(JobFault::Field(fault)) => Refusal {
                 number: 4,
                 line: 0,
                 field: 0,
                 reason: fault.reason(),
             },
-            PreviewFault::Candidate(JobFault::PointTwice) => Refusal {
-                number: 5,
-                line: 0,
-                field: 0,
-                reason: 0,
-            },
+            PreviewFault::Candidate(JobFault::PointTwice) => Refusal::at_line(5, 0),
         }
     }
 }

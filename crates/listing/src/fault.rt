@@ -42,12 +42,7 @@ impl CheckFault {
         ensures { λ r. ⌜ r ≡ check-refusal self ⌝ }
     {
         match self {
-            CheckFault::TooLong => Some(Refusal {
-                number: 13,
-                line: 0,
-                field: 0,
-                reason: 0,
-            }),
+            CheckFault::TooLong => Some(Refusal::at_line(13, 0)),
             CheckFault::Sheet(fault) => Some(fault.refusal()),
             CheckFault::NoMemory => None,
         }

@@ -1,23 +1,17 @@
--- What a reading leaves: in a list, in a record, in the tables.
+-- What a reading leaves in the tables.
 use Prim.Native.Nat.{ℕ}
 use mathlib.Core.Path.{_≡_}
 use mathlib.Core.List.{List, [], _∷_, _++_}
 use Rattle.std.specs.Results.{Cases}
 use Rattle.std.specs.declared.result.Result.{Result}
 use Rattle.std.specs.declared.result.Result.the-variants.{Ok, Err}
-use Rattle.job.specs.declared.fixed.FixedList.{FixedList}
 use Rattle.job.specs.declared.wire.Wire.{Wire}
-use Rattle.job.specs.Fixed.{list-of}
 use Rattle.job.specs.Plain.{Job}
 use Rattle.spelling.specs.declared.fault.SheetFault.{SheetFault}
 use Rattle.spelling.specs.declared.fault.SheetFault.the-variants.{NoBytes, AtLine}
 use Rattle.spelling.specs.Laws.{Faulty-line}
 use Rattle.spelling.specs.Sheet.{Tables, read}
 use Rattle.spelling.specs.Spelling.{Within, Spelled}
-
--- the list that was to be read, or the same fault
-abbrev pub Gathers : {T E : Type 0} {N : ℕ} → Result (List T) E → Result (FixedList T N) E → Type 0
-Gathers a r = Cases r (λ l. a ≡ Ok (list-of l)) (λ e. a ≡ Err e)
 
 -- an element more, if one was read
 abbrev pub Adds : {T E : Type 0} → Result T E → List T → List T → Type 0

@@ -6,15 +6,9 @@ use Rattle.std.specs.Results.{Cases}
 use Rattle.std.specs.declared.result.Result.{Result}
 use Rattle.std.specs.declared.result.Result.the-variants.{Ok, Err}
 use Rattle.job.specs.declared.fault.FieldFault.{FieldFault}
-use Rattle.job.specs.declared.record.JobRecord.{JobRecord}
 use Rattle.job.specs.Fixed.{list-of}
-use Rattle.job.specs.Lists.{distinct}
 use Rattle.job.specs.Plain.{Job}
-use Rattle.job.specs.Records.{job-of}
-use Rattle.job.specs.Results.{given}
 use Rattle.spelling.specs.declared.column.Column.{Column}
-use Rattle.spelling.specs.declared.fault.LineFault.{LineFault}
-use Rattle.spelling.specs.declared.fault.LineFault.the-variants.{PointTwice}
 use Rattle.spelling.specs.Lines.{put}
 use Rattle.sheet.specs.declared.values.Values.{Values}
 
@@ -24,11 +18,3 @@ values-of v = record { letter = v .letter; argument = v .argument; urgency = v .
 -- the values with what the text of one column says; a refused field changes nothing
 abbrev pub Puts : Column → List ℕ → Job → Result (Unit {0}) FieldFault → Job → Type 0
 Puts c t was r is = Cases r (λ _. put c t was ≡ Ok is) (λ e. (put c t was ≡ Err e) × (is ≡ was))
-
--- the record of the values, unless a point stands twice
-abbrev pub Records : Job → Result JobRecord LineFault → Type 0
-Records j r = Cases r (λ k. given (distinct (j .points)) PointTwice (Ok j) ≡ Ok (job-of k)) (λ e. given (distinct (j .points)) PointTwice (Ok j) ≡ Err e)
-
--- the values that the fields of a line say, or the same fault
-abbrev pub Fills : Result Job LineFault → Result Values LineFault → Type 0
-Fills a r = Cases r (λ v. a ≡ Ok (values-of v)) (λ e. a ≡ Err e)

@@ -1,11 +1,12 @@
 ghost use mathlib.Core.Path.{_≡_};
 ghost use lib.ListN.{length};
 ghost use Rattle.job.specs.Admitted.{no-record};
-ghost use Rattle.job.specs.Records.{job-of, jobs-of};
+ghost use Rattle.job.specs.Records.{jobs-of};
+ghost use Rattle.job.specs.Results.{Means};
 ghost use Rattle.spelling.specs.Lines.{fields, job-line};
 ghost use Rattle.spelling.specs.Texts.{all-of, cut};
 ghost use Rattle.sheet.specs.Tables.{Takes};
-ghost use Rattle.sheet.specs.Values.{Fills};
+ghost use Rattle.sheet.specs.Values.{values-of};
 use crate::place::at;
 use crate::reader::Reader;
 use crate::shape::expect_fields;
@@ -19,7 +20,7 @@ use spelling::fault::LineFromField;
 fn job_fields(order: &[Column], line: &[u8]) -> Result<Values, LineFault>
     requires order { ⌜ length (now order) ≡ 4 ⌝ }
     requires shape { ⌜ length (all-of (cut 32 (now line))) ≡ 4 ⌝ }
-    ensures { λ r. ⌜ Fills (fields (now (order .entry)) (all-of (cut 32 (now (line .entry)))) 1 no-record) r ⌝ }
+    ensures { λ r. ⌜ Means values-of (fields (now (order .entry)) (all-of (cut 32 (now (line .entry)))) 1 no-record) r ⌝ }
 {
     let mut reader = Reader::new(line);
     let mut values = Values::none();

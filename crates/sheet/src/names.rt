@@ -1,7 +1,8 @@
 ghost use mathlib.Core.Path.{_≡_};
 ghost use lib.ListN.{length};
+ghost use Rattle.job.specs.Fixed.{list-of};
+ghost use Rattle.job.specs.Results.{Means};
 ghost use Rattle.spelling.specs.Lines.{column as column-of, place as place-of, order-of-four, names as names-of};
-ghost use Rattle.sheet.specs.Tables.{Gathers};
 use crate::reader::Reader;
 use crate::shape::is_text;
 use job::distinct::all_different;
@@ -59,7 +60,7 @@ fn is_order(columns: &[Column]) -> bool
 
 // The names of the columns, in the order in which the fields of each job stand.
 pub(crate) fn names(line: &[u8]) -> Result<FixedList<Column, 4>, LineFault>
-    ensures { λ r. ⌜ Gathers (names-of (now (line .entry))) r ⌝ }
+    ensures { λ r. ⌜ Means list-of (names-of (now (line .entry))) r ⌝ }
 {
     let mut reader = Reader::new(line);
     let mut order = FixedList::new(Column::Proc);

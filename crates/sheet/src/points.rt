@@ -1,9 +1,10 @@
 ghost use mathlib.Core.Path.{_≡_};
 ghost use Prim.Native.Nat.{_≤_};
 ghost use lib.ListN.{length};
+ghost use Rattle.job.specs.Fixed.{list-of};
+ghost use Rattle.job.specs.Results.{Means};
 ghost use Rattle.spelling.specs.Fields.{number as number-of, points as points-of};
 ghost use Rattle.spelling.specs.Texts.{all-of, cut, each};
-ghost use Rattle.sheet.specs.Tables.{Gathers};
 use crate::number::number;
 use crate::reader::Reader;
 use crate::shape::at_most;
@@ -14,7 +15,7 @@ use job::fixed::FixedList;
 // The numbers between commas, of which there are at most 8.
 fn listed(text: &[u8]) -> Result<FixedList<u8, 8>, FieldFault>
     requires { ⌜ length (all-of (cut 44 (now text))) ≤ 8 ⌝ }
-    ensures { λ r. ⌜ Gathers (each (number-of 255) (all-of (cut 44 (now (text .entry))))) r ⌝ }
+    ensures { λ r. ⌜ Means list-of (each (number-of 255) (all-of (cut 44 (now (text .entry))))) r ⌝ }
 {
     let mut reader = Reader::new(text);
     let mut list = FixedList::new(0);
@@ -27,7 +28,7 @@ fn listed(text: &[u8]) -> Result<FixedList<u8, 8>, FieldFault>
 
 // The points of a job: `-` for none, or up to 8 numbers with commas between them.
 pub(crate) fn points(text: &[u8]) -> Result<FixedList<u8, 8>, FieldFault>
-    ensures { λ r. ⌜ Gathers (points-of (now (text .entry))) r ⌝ }
+    ensures { λ r. ⌜ Means list-of (points-of (now (text .entry))) r ⌝ }
 {
     if is_text(text, b"-") {
         return Ok(FixedList::new(0));

@@ -4,7 +4,7 @@ use Rattle.job.specs.declared.fault.FieldFault.{FieldFault}
 use Rattle.job.specs.declared.fault.WireFault.{WireFault}
 use Rattle.job.specs.declared.fault.WireFault.the-variants.{TableFull, ToItself, FifthFromPoint}
 use Rattle.job.specs.declared.refusal.Refusal.{Refusal}
-use Rattle.job.specs.Refusals.{reason-of}
+use Rattle.job.specs.Refusals.{reason-of, line-refusal}
 use Rattle.spelling.specs.declared.fault.LineFault.{LineFault}
 use Rattle.spelling.specs.declared.fault.LineFault.the-variants.{JobNames, WireNames, Unended, FieldCount, AtField, PointTwice, TooManyJobs, TooManyWires, WireToItself, FifthWire}
 use Rattle.spelling.specs.declared.fault.SheetFault.{SheetFault}
@@ -14,9 +14,6 @@ abbrev pub wire-fault : WireFault → LineFault
 wire-fault TableFull = TooManyWires
 wire-fault ToItself = WireToItself
 wire-fault FifthFromPoint = FifthWire
-
-abbrev pub line-refusal : ℕ → ℕ → Refusal
-line-refusal n line = record { number = n; line = line; field = 0; reason = 0 }
 
 -- number, line, field and reason of each fault of a sheet
 abbrev pub sheet-refusal : SheetFault → Refusal

@@ -10,72 +10,22 @@ impl SheetFault {
         ensures { λ r. ⌜ r ≡ sheet-refusal self ⌝ }
     {
         match self {
-            SheetFault::NoBytes => Refusal {
-                number: 1,
-                line: 0,
-                field: 0,
-                reason: 0,
-            },
-            SheetFault::AtLine(line, LineFault::JobNames) => Refusal {
-                number: 2,
-                line,
-                field: 0,
-                reason: 0,
-            },
-            SheetFault::AtLine(line, LineFault::WireNames) => Refusal {
-                number: 2,
-                line,
-                field: 0,
-                reason: 0,
-            },
-            SheetFault::AtLine(line, LineFault::Unended) => Refusal {
-                number: 3,
-                line,
-                field: 0,
-                reason: 0,
-            },
-            SheetFault::AtLine(line, LineFault::FieldCount(_)) => Refusal {
-                number: 3,
-                line,
-                field: 0,
-                reason: 0,
-            },
+            SheetFault::NoBytes => Refusal::at_line(1, 0),
+            SheetFault::AtLine(line, LineFault::JobNames) => Refusal::at_line(2, line),
+            SheetFault::AtLine(line, LineFault::WireNames) => Refusal::at_line(2, line),
+            SheetFault::AtLine(line, LineFault::Unended) => Refusal::at_line(3, line),
+            SheetFault::AtLine(line, LineFault::FieldCount(_)) => Refusal::at_line(3, line),
             SheetFault::AtLine(line, LineFault::AtField(field, fault)) => Refusal {
                 number: 4,
                 line,
                 field,
                 reason: fault.reason(),
             },
-            SheetFault::AtLine(line, LineFault::PointTwice) => Refusal {
-                number: 5,
-                line,
-                field: 0,
-                reason: 0,
-            },
-            SheetFault::AtLine(line, LineFault::TooManyJobs) => Refusal {
-                number: 6,
-                line,
-                field: 0,
-                reason: 0,
-            },
-            SheetFault::AtLine(line, LineFault::TooManyWires) => Refusal {
-                number: 6,
-                line,
-                field: 0,
-                reason: 0,
-            },
-            SheetFault::AtLine(line, LineFault::WireToItself) => Refusal {
-                number: 7,
-                line,
-                field: 0,
-                reason: 0,
-            },
-            SheetFault::AtLine(line, LineFault::FifthWire) => Refusal {
-                number: 7,
-                line,
-                field: 0,
-                reason: 0,
-            },
+            SheetFault::AtLine(line, LineFault::PointTwice) => Refusal::at_line(5, line),
+            SheetFault::AtLine(line, LineFault::TooManyJobs) => Refusal::at_line(6, line),
+            SheetFault::AtLine(line, LineFault::TooManyWires) => Refusal::at_line(6, line),
+            SheetFault::AtLine(line, LineFault::WireToItself) => Refusal::at_line(7, line),
+            SheetFault::AtLine(line, LineFault::FifthWire) => Refusal::at_line(7, line),
         }
     }
 }

@@ -5,7 +5,8 @@ ghost use Rattle.std.specs.Vec.{made};
 ghost use Rattle.std.specs.declared.result.Result.the-variants.{Ok};
 ghost use Rattle.job.specs.Fixed.{list-of};
 ghost use Rattle.job.specs.Records.{job-of, draft-of};
-ghost use Rattle.job.specs.Admitted.{lettered, calm, admitted, assembled, Gives, Gathers, no-record};
+ghost use Rattle.job.specs.Admitted.{letter-within, urgency-within, points-within, admitted, assembled, no-record};
+ghost use Rattle.job.specs.Results.{Means};
 use crate::distinct::all_different;
 use crate::draft::JobDraft;
 use crate::fault::FieldFault;
@@ -17,7 +18,7 @@ use std::alloc::AllocError;
 use std::alloc::Global;
 
 fn letter_within(letter: char) -> Result<char, FieldFault>
-    ensures { λ r. ⌜ r ≡ lettered letter ⌝ }
+    ensures { λ r. ⌜ r ≡ letter-within letter ⌝ }
 {
     match letter {
         'A'..='Z' => Ok(letter),
@@ -26,7 +27,7 @@ fn letter_within(letter: char) -> Result<char, FieldFault>
 }
 
 fn urgency_within(urgency: u32) -> Result<u8, FieldFault>
-    ensures { λ r. ⌜ r ≡ calm urgency ⌝ }
+    ensures { λ r. ⌜ r ≡ urgency-within urgency ⌝ }
 {
     if urgency > 9 {
         return Err(FieldFault::AboveRange(9));
@@ -36,7 +37,7 @@ fn urgency_within(urgency: u32) -> Result<u8, FieldFault>
 
 // At most 8 points, each at most 255.
 fn points_within(points: &[u32]) -> Result<FixedList<u8, 8>, FieldFault>
-    ensures { λ r. ⌜ Gathers (now (points .entry)) r ⌝ }
+    ensures { λ r. ⌜ Means list-of (points-within (now (points .entry))) r ⌝ }
 {
     if points.len() > 8 {
         return Err(FieldFault::TooManyPoints);
@@ -71,7 +72,7 @@ impl JobRecord {
         urgency: u8,
         points: FixedList<u8, 8>,
     ) -> Result<JobRecord, JobFault>
-        ensures { λ r. ⌜ Gives (assembled (record { letter = letter; argument = argument; urgency = urgency; points = list-of points })) r ⌝ }
+        ensures { λ r. ⌜ Means job-of (assembled (record { letter = letter; argument = argument; urgency = urgency; points = list-of points })) r ⌝ }
     {
         let letter = letter_within(letter)?;
         let urgency = urgency_within(urgency as u32)?;
@@ -88,7 +89,7 @@ impl JobRecord {
 
     // The record of a draft, refused by its first fault: letter, urgency, number of points, points from the left, a point twice.
     pub fn from_draft(draft: &JobDraft) -> Result<JobRecord, JobFault>
-        ensures { λ r. ⌜ Gives (admitted (draft-of (now (draft .entry)))) r ⌝ }
+        ensures { λ r. ⌜ Means job-of (admitted (draft-of (now (draft .entry)))) r ⌝ }
     {
         let letter = letter_within(draft.letter)?;
         let urgency = urgency_within(draft.urgency)?;

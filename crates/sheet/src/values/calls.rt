@@ -1,7 +1,12 @@
 ghost use mathlib.Core.Path.{_≡_};
+ghost use Rattle.std.specs.declared.result.Result.the-variants.{Ok};
 ghost use Rattle.job.specs.Admitted.{no-record};
+ghost use Rattle.job.specs.Lists.{distinct};
+ghost use Rattle.job.specs.Records.{job-of};
+ghost use Rattle.job.specs.Results.{given, Means};
+ghost use Rattle.spelling.specs.declared.fault.LineFault.the-variants.{PointTwice};
 ghost use Rattle.sheet.specs.Reading.{pieces-of, head-of, tail-of};
-ghost use Rattle.sheet.specs.Values.{values-of, Puts, Records};
+ghost use Rattle.sheet.specs.Values.{values-of, Puts};
 use crate::field::Field;
 use crate::points::points;
 use crate::reader::Reader;
@@ -50,7 +55,7 @@ impl Values {
 
     // The job that the fields say, unless a point stands twice.
     pub(crate) fn record(&self) -> Result<JobRecord, LineFault>
-        ensures { λ r. ⌜ Records (values-of (now (self .entry))) r ⌝ }
+        ensures { λ r. ⌜ Means job-of (given (distinct (values-of (now (self .entry)) .points)) PointTwice (Ok (values-of (now (self .entry))))) r ⌝ }
     {
         match JobRecord::new(self.letter, self.argument, self.urgency, self.points) {
             Ok(record) => Ok(record),
