@@ -15,15 +15,11 @@ use Rattle.job.specs.declared.fault.FieldFault.the-variants.{AboveRange}
 use Rattle.job.specs.declared.fault.JobFault.{JobFault}
 use Rattle.job.specs.declared.fault.JobFault.the-variants.{Field, PointTwice}
 use Rattle.job.specs.Admitted.{letter-within, urgency-within, points-within, admitted, assembled}
-use Rattle.job.specs.Fixed.{Pushed}
-use Rattle.job.specs.Lists.{every, distinct}
+use Rattle.fixed.specs.Fixed.{Pushed}
+use Rattle.fixed.specs.Lists.{every, distinct}
 use Rattle.job.specs.Plain.{Job}
-use Rattle.job.specs.Results.{given, and-then, or-else}
-use Rattle.job.proofs.Scans.{every-stays, every-fails}
-
-pub by-bool : {A : Type 0} (b : Bool) → (b ≡ true → A) → (b ≡ false → A) → A
-by-bool true f g = f refl
-by-bool false f g = g refl
+use Rattle.fixed.specs.Results.{given, and-then, or-else}
+use Rattle.fixed.proofs.Scans.{every-stays, every-fails}
 
 -- what a test lets pass is unchanged
 pub passes-same : {A E : Type 0} (b : Bool) (e : E) (x y : A) → Ok y ≡ given b e (Ok x) → y ≡ x
@@ -39,11 +35,6 @@ module _ (l a u : ℕ) (ps : List ℕ) (m v : ℕ) where
 
   pub assembled-whole : Ok m ≡ letter-within l → Ok v ≡ urgency-within u → distinct ps ≡ true → assembled (record { letter = l; argument = a; urgency = u; points = ps }) ≡ Ok (record { letter = m; argument = a; urgency = v; points = ps })
   assembled-whole p q d = rw (← p, ← q, d) (ap Ok (same-job l m a u v ps (sym (passes-same _ _ l m p)) (sym (passes-same _ _ u v q))))
-
--- room for one more
-pub pushed-room : {T U : Type 0} (n : ℕ) (f : U → T) (was : List T) (x : U) (r : Result (Unit {0}) U) (is : List T) → length was < n → Pushed n f was x r is → is ≡ was ++ f x ∷ []
-pushed-room n f was x (Ok t) is h p = p .1
-pushed-room n f was x (Err t) is h p = absurd (let k = p .1 in omega arith)
 
 module _ (ps : List ℕ) (i : ℕ) where
   pub bounded-fails : length ps ≤ 8 → every (λ (p : ℕ). leb p 255) ps ≡ every (λ (p : ℕ). leb p 255) (drop i ps) → i < length ps → 255 < getD ps i 0 → points-within ps ≡ Err (AboveRange 255)

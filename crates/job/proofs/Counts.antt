@@ -16,9 +16,10 @@ use Rattle.std.specs.Iters.{counting}
 use Rattle.std.specs.declared.result.Result.the-variants.{Ok, Err}
 use Rattle.job.specs.declared.fault.WireFault.the-variants.{TableFull, ToItself, FifthFromPoint}
 use Rattle.job.specs.declared.wire.Wire.{Wire}
-use Rattle.job.specs.Lists.{every}
+use Rattle.fixed.specs.Lists.{every}
 use Rattle.job.specs.Wires.{leads-on, leaving, tally, wired}
-use Rattle.job.proofs.Admitting.{by-bool}
+use Rattle.fixed.proofs.Pushing.{by-bool}
+use Rattle.fixed.proofs.Scans.{every-push, every-set}
 
 pub leaving-push : (p : ℕ) (ws : List Wire) (w : Wire) → leaving p (ws ++ w ∷ []) ≡ leaving p ws + cond (eqb (w .from) p) 1 0
 leaving-push p ws w = sumBy-push (λ w. cond (eqb (w .from) p) 1 0) ws w
@@ -57,15 +58,6 @@ tally-at ws p h = counts-at 256 ws p h
 pub tally-push : (ws : List Wire) (w : Wire) → w .from < 256 → tally (ws ++ w ∷ []) ≡ set (tally ws) (w .from) (getD (tally ws) (w .from) 0 + 1)
 unfolding tally counts
 tally-push ws w h = counts-push 256 ws w h
-
-pub every-push : {A : Type 0} (f : A → Bool) (xs : List A) (y : A) → every f xs ≡ true → f y ≡ true → every f (xs ++ y ∷ []) ≡ true
-every-push f [] y h k = rw k
-every-push f (x ∷ xs) y h k = let (p, q) = and-parts (f x) (every f xs) h in rw (p, every-push f xs y q k)
-
-pub every-set : {A : Type 0} (f : A → Bool) (xs : List A) (i : ℕ) (y : A) → every f xs ≡ true → f y ≡ true → every f (set xs i y) ≡ true
-every-set f [] i y h k = refl
-every-set f (x ∷ xs) zero y h k = let (p, q) = and-parts (f x) (every f xs) h in rw (k, q)
-every-set f (x ∷ xs) (suc i) y h k = let (p, q) = and-parts (f x) (every f xs) h in rw (p, every-set f xs i y q k)
 
 module _ (ws : List Wire) (w : Wire) (cs : List ℕ) where
   pub wired-full : leb 256 (length ws) ≡ true → wired ws w ≡ Err TableFull

@@ -14,30 +14,19 @@ use Rattle.std.specs.declared.option.Option.the-variants.{Some, None}
 use Rattle.std.specs.declared.result.Result.the-variants.{Ok, Err}
 use Rattle.job.specs.declared.record.JobRecord.{JobRecord}
 use Rattle.job.specs.Admitted.{admitted, no-record}
-use Rattle.job.specs.Lists.{some, has}
+use Rattle.fixed.specs.Lists.{some, has}
 use Rattle.job.specs.Plain.{Job}
 use Rattle.job.specs.Records.{job-of}
 use Rattle.job.specs.Preview.{blank-marks, marked, Marked, Unmarked-from, Highest-marked, Clear-from, Highest-clash, job-at}
-use Rattle.job.proofs.Admitting.{by-bool, admitted-same}
+use Rattle.job.proofs.Admitting.{admitted-same}
+use Rattle.fixed.proofs.Pushing.{by-bool}
+use Rattle.fixed.proofs.Scans.{some-push, some-same}
 
 pub blank-step : (ms : List ℕ) (i : ℕ) → i < length ms → take i ms ≡ replicate i 0 → take (i + 1) (set ms i 0) ≡ replicate (i + 1) 0
 blank-step ms i h e = take-more-set ms i 0 h ∙ (ap (λ (l : List ℕ). l ++ 0 ∷ []) e ∙ replicate-more i 0)
 
 pub blank-end : (ms : List ℕ) (i n : ℕ) → length ms ≡ n → n ≤ i → i ≤ n → take i ms ≡ replicate i 0 → ms ≡ replicate n 0
 blank-end ms i n l h k e = let z : i ≡ n = omega arith in sym (take-all i ms (omega arith)) ∙ (e ∙ ap (λ (m : ℕ). replicate m 0) z)
-
--- one point more among the points
-pub some-push : {A : Type 0} (f : A → Bool) (xs : List A) (y : A) → some f (xs ++ y ∷ []) ≡ (some f xs || f y)
-some-push f [] y = go (f y)
-  where
-    go : (b : Bool) → (b || false) ≡ b
-    go true = refl
-    go false = refl
-some-push f (x ∷ xs) y = rw (some-push f xs y) (sym (or-assoc (f x) (some f xs) (f y)))
-  where
-    or-assoc : (a b c : Bool) → ((a || b) || c) ≡ (a || (b || c))
-    or-assoc true b c = refl
-    or-assoc false b c = refl
 
 pub marked-none : (ms : List ℕ) → ms ≡ blank-marks → (length ms ≡ 256) × Marked ms []
 marked-none ms e = (ap length e ∙ length-replicate {A = ℕ} 256 0, λ p. ap (λ (l : List ℕ). marked l p) e ∙ ap (λ x. not (eqb x 0)) (blank-at p))
@@ -70,10 +59,6 @@ marked-step ms ps i h l (n, m) = (length-set ms (getD ps i 0) 1 ∙ n, λ p. at 
 
 pub marked-end : (ms ps : List ℕ) (i : ℕ) → length ps ≤ i → Marked ms (take i ps) → Marked ms ps
 marked-end ms ps i h m = subst (λ (q : List ℕ). Marked ms q) (take-all i ps h) m
-
-pub some-same : {A : Type 0} (f g : A → Bool) → ((x : A) → f x ≡ g x) → (xs : List A) → some f xs ≡ some g xs
-some-same f g e [] = refl
-some-same f g e (x ∷ xs) = rw (e x, some-same f g e xs)
 
 -- ## Jobs by their places
 pub job-read : (js : List JobRecord) (i : ℕ) (r : JobRecord) → i < length js → r ≡ getD js i r → job-at (map job-of js) i ≡ job-of r

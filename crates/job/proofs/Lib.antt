@@ -1,4 +1,3 @@
-pub mod Scans
 pub mod Admitting
 pub mod Counts
 pub mod Highest

@@ -10,9 +10,9 @@ use Rattle.job.specs.declared.fault.FieldFault.{FieldFault}
 use Rattle.job.specs.declared.fault.FieldFault.the-variants.{AboveRange, UnknownLetter, TooManyPoints}
 use Rattle.job.specs.declared.fault.JobFault.{JobFault}
 use Rattle.job.specs.declared.fault.JobFault.the-variants.{Field, PointTwice}
-use Rattle.job.specs.Lists.{distinct, every}
+use Rattle.fixed.specs.Lists.{distinct, every}
 use Rattle.job.specs.Plain.{Job}
-use Rattle.job.specs.Results.{given, and-then, or-else}
+use Rattle.fixed.specs.Results.{given, and-then, or-else}
 
 -- a letter from A to Z
 abbrev pub letter-within : ℕ → Result ℕ FieldFault

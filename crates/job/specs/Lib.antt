@@ -1,7 +1,4 @@
-pub mod Lists
-pub mod Results
 pub mod Plain
-pub mod Fixed
 pub mod Records
 pub mod Wires
 pub mod Wiring

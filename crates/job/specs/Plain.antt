@@ -2,7 +2,7 @@
 use Prim.Native.Nat.{ℕ}
 use mathlib.Core.List.{List}
 use mathlib.Core.Bool.{Bool}
-use Rattle.job.specs.Lists.{has, some}
+use Rattle.fixed.specs.Lists.{has, some}
 
 -- a letter by its code, an argument, an urgency, and the points in their order
 pub record Job : Type 0 where

@@ -13,7 +13,7 @@ use Rattle.std.specs.declared.result.Result.the-variants.{Ok, Err}
 use Rattle.job.specs.declared.fault.PreviewFault.{PreviewFault}
 use Rattle.job.specs.declared.fault.PreviewFault.the-variants.{WrongLength, Candidate}
 use Rattle.job.specs.Admitted.{admitted, no-record}
-use Rattle.job.specs.Lists.{has, some}
+use Rattle.fixed.specs.Lists.{has, some}
 use Rattle.job.specs.Plain.{Job, clashes}
 
 -- the job at a place, counted from 0: job number n stands at n - 1

@@ -5,7 +5,7 @@ use Rattle.std.specs.Of.Vec.{vec-items}
 use Rattle.job.specs.declared.draft.JobDraft.{JobDraft}
 use Rattle.job.specs.declared.record.JobRecord.{JobRecord}
 use Rattle.job.specs.declared.table.JobTable.{JobTable}
-use Rattle.job.specs.Fixed.{list-of}
+use Rattle.fixed.specs.Fixed.{list-of}
 use Rattle.job.specs.Plain.{Job}
 
 abbrev pub job-of : JobRecord → Job

@@ -11,7 +11,7 @@ use Rattle.std.specs.declared.result.Result.the-variants.{Ok, Err}
 use Rattle.job.specs.declared.fault.WireFault.{WireFault}
 use Rattle.job.specs.declared.fault.WireFault.the-variants.{TableFull, ToItself, FifthFromPoint}
 use Rattle.job.specs.declared.wire.Wire.{Wire}
-use Rattle.job.specs.Results.{given}
+use Rattle.fixed.specs.Results.{given}
 
 -- whether a wire leads to another point
 abbrev pub leads-on : Wire → Bool

@@ -7,7 +7,7 @@ use Rattle.std.specs.declared.result.Result.the-variants.{Ok, Err}
 use Rattle.job.specs.declared.fault.WireFault.{WireFault}
 use Rattle.job.specs.declared.wire.Wire.{Wire}
 use Rattle.job.specs.declared.wiring.WireTable.{WireTable}
-use Rattle.job.specs.Fixed.{list-of}
+use Rattle.fixed.specs.Fixed.{list-of}
 use Rattle.job.specs.Wires.{wired}
 
 abbrev pub wires-of : WireTable → List Wire

@@ -1,8 +1,6 @@
 // Jobs and wires: the checked records and tables, the unchecked shape of a job, and the preview of a job.
-pub mod distinct;
 pub mod draft;
 pub mod fault;
-pub mod fixed;
 mod marks;
 pub mod preview;
 pub mod record;

@@ -1,9 +1,9 @@
 ghost use mathlib.Core.Path.{_≡_};
 ghost use mathlib.Core.Bool.{true};
 ghost use Prim.Native.Nat.{_≤_};
-ghost use Rattle.job.specs.Lists.{distinct};
-ghost use Rattle.job.specs.Fixed.{list-of};
-use crate::fixed::FixedList;
+ghost use Rattle.fixed.specs.Lists.{distinct};
+ghost use Rattle.fixed.specs.Fixed.{list-of};
+use fixed::list::FixedList;
 
 mod calls;
 

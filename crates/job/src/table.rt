@@ -1,5 +1,5 @@
-use crate::fixed::FixedList;
 use crate::record::JobRecord;
+use fixed::list::FixedList;
 
 mod calls;
 

@@ -1,11 +1,11 @@
 ghost use mathlib.Core.Path.{_≡_};
 ghost use mathlib.Core.Bool.{true};
 ghost use lib.Dec.{leb};
-ghost use Rattle.job.specs.Fixed.{list-of};
-ghost use Rattle.job.specs.Lists.{every};
+ghost use Rattle.fixed.specs.Fixed.{list-of};
+ghost use Rattle.fixed.specs.Lists.{every};
 ghost use Rattle.job.specs.Wires.{leads-on, tally};
-use crate::fixed::FixedList;
 use crate::wire::Wire;
+use fixed::list::FixedList;
 
 mod calls;
 

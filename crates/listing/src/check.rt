@@ -1,13 +1,13 @@
 ghost use mathlib.Core.Path.{_≡_};
 ghost use Rattle.std.specs.Vec.{made};
-ghost use Rattle.job.specs.Fixed.{list-of};
+ghost use Rattle.fixed.specs.Fixed.{list-of};
 ghost use Rattle.job.specs.Records.{jobs-of};
 ghost use Rattle.listing.specs.Reports.{Clash-rows, Checked};
 use crate::fault::CheckFault;
 use crate::fault::CheckFromAlloc;
 use crate::fault::CheckFromSheet;
 use crate::report::Report;
-use job::fixed::FixedList;
+use fixed::list::FixedList;
 use job::preview::preview;
 use job::table::JobTable;
 use job::wiring::WireTable;

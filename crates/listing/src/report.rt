@@ -1,4 +1,4 @@
-use job::fixed::FixedList;
+use fixed::list::FixedList;
 
 // For each job of a sheet, in its order, the highest number of an earlier job that clashes with it.
 #[derive(Drop)]

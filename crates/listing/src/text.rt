@@ -1,7 +1,7 @@
 ghost use mathlib.Core.Path.{_≡_};
 ghost use Rattle.std.specs.Of.String.{string-bytes};
 ghost use Rattle.std.specs.Vec.{made};
-ghost use Rattle.job.specs.Fixed.{list-of};
+ghost use Rattle.fixed.specs.Fixed.{list-of};
 ghost use Rattle.listing.specs.Texts.{row-text, report-text, refusal-text};
 use crate::report::Report;
 use job::refusal::Refusal;

@@ -10,9 +10,9 @@ use Rattle.std.proofs.shelf.Lists.{length-append}
 use Rattle.std.proofs.shelf.Tests.{eq-eqb, ne-eqb}
 use Rattle.std.specs.declared.result.Result.{Result}
 use Rattle.std.specs.declared.result.Result.the-variants.{Ok, Err}
-use Rattle.job.specs.Lists.{distinct}
-use Rattle.job.specs.Results.{and-then, given}
-use Rattle.job.proofs.Admitting.{by-bool}
+use Rattle.fixed.specs.Lists.{distinct}
+use Rattle.fixed.specs.Results.{and-then, given}
+use Rattle.fixed.proofs.Pushing.{by-bool}
 use Rattle.spelling.specs.declared.column.Column.{Column}
 use Rattle.spelling.specs.declared.fault.LineFault.{LineFault}
 use Rattle.spelling.specs.declared.fault.LineFault.the-variants.{JobNames}

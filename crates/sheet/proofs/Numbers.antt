@@ -17,7 +17,7 @@ use Rattle.std.specs.Reads.{value}
 use Rattle.std.specs.declared.result.Result.the-variants.{Ok, Err}
 use Rattle.job.specs.declared.fault.FieldFault.{FieldFault}
 use Rattle.job.specs.declared.fault.FieldFault.the-variants.{NoNumber, AboveRange}
-use Rattle.job.proofs.Admitting.{by-bool}
+use Rattle.fixed.proofs.Pushing.{by-bool}
 use Rattle.spelling.specs.Fields.{number}
 use Rattle.spelling.proofs.Values.{plain-from}
 

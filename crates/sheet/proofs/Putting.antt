@@ -14,11 +14,11 @@ use Rattle.job.specs.declared.fault.FieldFault.{FieldFault}
 use Rattle.job.specs.declared.fault.WireFault.{WireFault}
 use Rattle.job.specs.declared.wire.Wire.{Wire}
 use Rattle.job.specs.Admitted.{no-record}
-use Rattle.job.specs.Lists.{distinct, every}
+use Rattle.fixed.specs.Lists.{distinct, every}
 use Rattle.job.specs.Plain.{Job}
-use Rattle.job.specs.Results.{and-then, or-else, given}
+use Rattle.fixed.specs.Results.{and-then, or-else, given}
 use Rattle.job.specs.Wires.{wired}
-use Rattle.job.proofs.Admitting.{by-bool}
+use Rattle.fixed.proofs.Pushing.{by-bool}
 use Rattle.spelling.specs.declared.fault.LineFault.{LineFault}
 use Rattle.spelling.specs.declared.fault.LineFault.the-variants.{AtField, PointTwice}
 use Rattle.spelling.specs.Faults.{wire-fault}

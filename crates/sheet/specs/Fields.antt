@@ -7,7 +7,7 @@ use Rattle.std.specs.Written.{decimal}
 use Rattle.std.specs.declared.result.Result.{Result}
 use Rattle.std.specs.declared.result.Result.the-variants.{Ok, Err}
 use Rattle.job.specs.declared.fault.FieldFault.{FieldFault}
-use Rattle.job.specs.Results.{and-then}
+use Rattle.fixed.specs.Results.{and-then}
 use Rattle.spelling.specs.declared.column.Column.{Column}
 use Rattle.spelling.specs.declared.column.Column.the-variants.{Proc, Arg, Urg, Points}
 use Rattle.spelling.specs.Fields.{letter, number}

@@ -6,7 +6,7 @@ use Rattle.std.specs.Results.{Cases}
 use Rattle.std.specs.declared.result.Result.{Result}
 use Rattle.std.specs.declared.result.Result.the-variants.{Ok, Err}
 use Rattle.job.specs.declared.fault.FieldFault.{FieldFault}
-use Rattle.job.specs.Fixed.{list-of}
+use Rattle.fixed.specs.Fixed.{list-of}
 use Rattle.job.specs.Plain.{Job}
 use Rattle.spelling.specs.declared.column.Column.{Column}
 use Rattle.spelling.specs.Lines.{put}

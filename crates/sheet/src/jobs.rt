@@ -2,7 +2,7 @@ ghost use mathlib.Core.Path.{_≡_};
 ghost use lib.ListN.{length};
 ghost use Rattle.job.specs.Admitted.{no-record};
 ghost use Rattle.job.specs.Records.{jobs-of};
-ghost use Rattle.job.specs.Results.{Means};
+ghost use Rattle.fixed.specs.Results.{Means};
 ghost use Rattle.spelling.specs.Lines.{fields, job-line};
 ghost use Rattle.spelling.specs.Texts.{all-of, cut};
 ghost use Rattle.sheet.specs.Tables.{Takes};

@@ -1,12 +1,12 @@
 ghost use mathlib.Core.Path.{_≡_};
 ghost use lib.ListN.{length};
-ghost use Rattle.job.specs.Fixed.{list-of};
-ghost use Rattle.job.specs.Results.{Means};
+ghost use Rattle.fixed.specs.Fixed.{list-of};
+ghost use Rattle.fixed.specs.Results.{Means};
 ghost use Rattle.spelling.specs.Lines.{column as column-of, place as place-of, order-of-four, names as names-of};
 use crate::reader::Reader;
 use crate::shape::is_text;
-use job::distinct::all_different;
-use job::fixed::FixedList;
+use fixed::distinct::all_different;
+use fixed::list::FixedList;
 use spelling::column::Column;
 use spelling::fault::LineFault;
 

@@ -1,16 +1,16 @@
 ghost use mathlib.Core.Path.{_≡_};
 ghost use Prim.Native.Nat.{_≤_};
 ghost use lib.ListN.{length};
-ghost use Rattle.job.specs.Fixed.{list-of};
-ghost use Rattle.job.specs.Results.{Means};
+ghost use Rattle.fixed.specs.Fixed.{list-of};
+ghost use Rattle.fixed.specs.Results.{Means};
 ghost use Rattle.spelling.specs.Fields.{number as number-of, points as points-of};
 ghost use Rattle.spelling.specs.Texts.{all-of, cut, each};
 use crate::number::number;
 use crate::reader::Reader;
 use crate::shape::at_most;
 use crate::shape::is_text;
+use fixed::list::FixedList;
 use job::fault::FieldFault;
-use job::fixed::FixedList;
 
 // The numbers between commas, of which there are at most 8.
 fn listed(text: &[u8]) -> Result<FixedList<u8, 8>, FieldFault>

@@ -2,7 +2,7 @@ ghost use mathlib.Core.Path.{_≡_};
 ghost use lib.Dec.{leb};
 ghost use lib.ListN.{length};
 ghost use Rattle.std.specs.declared.result.Result.the-variants.{Ok};
-ghost use Rattle.job.specs.Results.{and-then};
+ghost use Rattle.fixed.specs.Results.{and-then};
 ghost use Rattle.spelling.specs.Lines.{split};
 ghost use Rattle.spelling.specs.Texts.{all-of, cut, same};
 use crate::reader::Reader;

@@ -1,5 +1,5 @@
 ghost use Prim.Native.Nat.{_≤_};
-use job::fixed::FixedList;
+use fixed::list::FixedList;
 
 mod calls;
 

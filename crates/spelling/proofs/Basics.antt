@@ -12,9 +12,9 @@ use Rattle.std.specs.declared.option.Option.{Option}
 use Rattle.std.specs.declared.option.Option.the-variants.{Some, None}
 use Rattle.std.specs.declared.result.Result.{Result}
 use Rattle.std.specs.declared.result.Result.the-variants.{Ok, Err}
-use Rattle.job.specs.Lists.{has}
-use Rattle.job.specs.Results.{and-then, or-else, given}
-use Rattle.job.proofs.Admitting.{by-bool}
+use Rattle.fixed.specs.Lists.{has}
+use Rattle.fixed.specs.Results.{and-then, or-else, given}
+use Rattle.fixed.proofs.Pushing.{by-bool}
 use Rattle.spelling.specs.Checks.{lines-then}
 use Rattle.spelling.specs.Spelling.{join, with-ends}
 use Rattle.spelling.specs.Texts.{Pieces, last, more, onto, cut, all-of, same, each}

@@ -15,7 +15,7 @@ use Rattle.std.specs.declared.result.Result.the-variants.{Ok, Err}
 use Rattle.job.specs.declared.wire.Wire.{Wire}
 use Rattle.job.specs.Plain.{Job}
 use Rattle.job.specs.Wires.{leaving}
-use Rattle.job.proofs.Admitting.{by-bool}
+use Rattle.fixed.proofs.Pushing.{by-bool}
 use Rattle.job.proofs.Counts.{leaving-push}
 use Rattle.spelling.specs.declared.column.Column.{Column}
 use Rattle.spelling.specs.declared.fault.LineFault.{LineFault}

@@ -14,11 +14,11 @@ use Rattle.std.specs.Written.{decimal}
 use Rattle.std.specs.declared.result.Result.the-variants.{Ok}
 use Rattle.job.specs.declared.wire.Wire.{Wire}
 use Rattle.job.specs.Admitted.{no-record}
-use Rattle.job.specs.Lists.{every, has, distinct}
+use Rattle.fixed.specs.Lists.{every, has, distinct}
 use Rattle.job.specs.Plain.{Job}
-use Rattle.job.specs.Results.{or-else}
+use Rattle.fixed.specs.Results.{or-else}
 use Rattle.job.specs.Wires.{leads-on, leaving, wired}
-use Rattle.job.proofs.Admitting.{by-bool}
+use Rattle.fixed.proofs.Pushing.{by-bool}
 use Rattle.spelling.specs.declared.column.Column.{Column}
 use Rattle.spelling.specs.declared.column.Column.the-variants.{Proc, Arg, Urg, Points}
 use Rattle.spelling.specs.declared.fault.LineFault.the-variants.{AtField}

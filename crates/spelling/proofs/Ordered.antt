@@ -17,11 +17,11 @@ use Rattle.job.specs.declared.fault.FieldFault.{FieldFault}
 use Rattle.job.specs.declared.fault.FieldFault.the-variants.{TooManyPoints}
 use Rattle.job.specs.declared.wire.Wire.{Wire}
 use Rattle.job.specs.Admitted.{no-record}
-use Rattle.job.specs.Lists.{every, some, has, distinct}
+use Rattle.fixed.specs.Lists.{every, some, has, distinct}
 use Rattle.job.specs.Plain.{Job}
-use Rattle.job.specs.Results.{and-then, or-else, given}
+use Rattle.fixed.specs.Results.{and-then, or-else, given}
 use Rattle.job.specs.Wires.{leaving, wired}
-use Rattle.job.proofs.Admitting.{by-bool}
+use Rattle.fixed.proofs.Pushing.{by-bool}
 use Rattle.spelling.specs.declared.column.Column.{Column}
 use Rattle.spelling.specs.declared.column.Column.the-variants.{Proc, Arg, Urg, Points}
 use Rattle.spelling.specs.declared.fault.LineFault.{LineFault}

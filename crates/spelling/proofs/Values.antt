@@ -18,7 +18,7 @@ use Rattle.std.specs.Reads.{value}
 use Rattle.std.specs.Written.{decimal}
 use Rattle.std.specs.declared.result.Result.the-variants.{Ok}
 use Rattle.job.specs.declared.fault.FieldFault.the-variants.{NoNumber, TooManyPoints}
-use Rattle.job.proofs.Admitting.{by-bool}
+use Rattle.fixed.proofs.Pushing.{by-bool}
 use Rattle.spelling.specs.declared.column.Column.{Column}
 use Rattle.spelling.specs.declared.column.Column.the-variants.{Proc, Arg, Urg, Points}
 use Rattle.spelling.specs.Fields.{plain, number, letter, points}

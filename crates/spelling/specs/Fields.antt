@@ -10,7 +10,7 @@ use Rattle.std.specs.declared.result.Result.{Result}
 use Rattle.std.specs.declared.result.Result.the-variants.{Ok, Err}
 use Rattle.job.specs.declared.fault.FieldFault.{FieldFault}
 use Rattle.job.specs.declared.fault.FieldFault.the-variants.{NoNumber, AboveRange, UnknownLetter, TooManyPoints}
-use Rattle.job.specs.Results.{given}
+use Rattle.fixed.specs.Results.{given}
 use Rattle.spelling.specs.Texts.{cut, all-of, same, each}
 
 -- some digits, of which the first is no 0 unless it is the only one

@@ -10,9 +10,9 @@ use Rattle.std.specs.declared.result.Result.the-variants.{Ok, Err}
 use Rattle.job.specs.declared.fault.FieldFault.{FieldFault}
 use Rattle.job.specs.declared.wire.Wire.{Wire}
 use Rattle.job.specs.Admitted.{no-record}
-use Rattle.job.specs.Lists.{every, distinct}
+use Rattle.fixed.specs.Lists.{every, distinct}
 use Rattle.job.specs.Plain.{Job}
-use Rattle.job.specs.Results.{and-then, or-else, given}
+use Rattle.fixed.specs.Results.{and-then, or-else, given}
 use Rattle.job.specs.Wires.{wired}
 use Rattle.spelling.specs.declared.column.Column.{Column}
 use Rattle.spelling.specs.declared.column.Column.the-variants.{Proc, Arg, Urg, Points}

@@ -9,7 +9,7 @@ use Rattle.std.specs.declared.result.Result.{Result}
 use Rattle.std.specs.declared.result.Result.the-variants.{Ok, Err}
 use Rattle.job.specs.declared.wire.Wire.{Wire}
 use Rattle.job.specs.Plain.{Job}
-use Rattle.job.specs.Results.{and-then, or-else, given}
+use Rattle.fixed.specs.Results.{and-then, or-else, given}
 use Rattle.spelling.specs.declared.column.Column.{Column}
 use Rattle.spelling.specs.declared.fault.LineFault.{LineFault}
 use Rattle.spelling.specs.declared.fault.LineFault.the-variants.{JobNames, WireNames, Unended, TooManyJobs, TooManyWires}

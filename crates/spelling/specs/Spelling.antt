@@ -8,7 +8,7 @@ use lib.ListN.{length}
 use Rattle.std.specs.Written.{decimal}
 use Rattle.std.specs.shelf.Lists.{All}
 use Rattle.job.specs.declared.wire.Wire.{Wire}
-use Rattle.job.specs.Lists.{distinct}
+use Rattle.fixed.specs.Lists.{distinct}
 use Rattle.job.specs.Plain.{Job}
 use Rattle.job.specs.Wires.{leaving}
 use Rattle.spelling.specs.declared.column.Column.{Column}

@@ -5,7 +5,7 @@ use mathlib.Core.Bool.{Bool, true, false, cond, not, _&&_, _||_}
 use lib.Dec.{eqb}
 use Rattle.std.specs.declared.result.Result.{Result}
 use Rattle.std.specs.declared.result.Result.the-variants.{Ok, Err}
-use Rattle.job.specs.Results.{and-then}
+use Rattle.fixed.specs.Results.{and-then}
 
 -- some pieces that a separator ends, and what follows the last separator
 pub data Pieces : Type 0 where

@@ -3,11 +3,11 @@ ghost use mathlib.Core.List.{[], map};
 ghost use Prim.Native.Nat.{_≤_};
 ghost use lib.Dec.{leb};
 ghost use lib.ListN.{length};
-ghost use Rattle.job.specs.Fixed.{Pushed};
+ghost use Rattle.fixed.specs.Fixed.{Pushed};
 ghost use Rattle.job.specs.Records.{job-of, jobs-of};
-use crate::fixed::FixedList;
 use crate::record::JobRecord;
 use crate::table::JobTable;
+use fixed::list::FixedList;
 
 impl JobTable {
     pub fn new() -> JobTable

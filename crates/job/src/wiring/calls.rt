@@ -5,9 +5,9 @@ ghost use lib.Dec.{leb};
 ghost use lib.ListN.{length};
 ghost use Rattle.job.specs.Wiring.{wires-of, Strung};
 use crate::fault::WireFault;
-use crate::fixed::FixedList;
 use crate::wire::Wire;
 use crate::wiring::WireTable;
+use fixed::list::FixedList;
 
 impl WireTable {
     pub fn new() -> WireTable

@@ -2,9 +2,9 @@ use mathlib.Core.Path.{sym, ap, _∙_}
 use mathlib.Core.Bool.{not}
 use Rattle.std.proofs.shelf.Lists.{at-drop-all}
 use Rattle.std.proofs.shelf.Tests.{eq-eqb, ne-eqb}
-use Rattle.job.specs.Lists.{some}
+use Rattle.fixed.specs.Lists.{some}
 use Rattle.job.specs.Preview.{marked}
-use Rattle.job.proofs.Scans.{some-found, some-stays}
+use Rattle.fixed.proofs.Scans.{some-found, some-stays}
 use Rattle.job.proofs.preview.any_marked.Needs as need
 
 pub returns-then-marks-p-ne0 : need.returns-then-marks-p-ne0

@@ -1,6 +1,6 @@
 use mathlib.Core.Path.{_≡_}
 use lib.ListN.{drop}
-use Rattle.job.specs.Lists.{some}
+use Rattle.fixed.specs.Lists.{some}
 use Rattle.job.specs.Preview.{marked}
 use Rattle.job.proofs.preview.any_marked.Given as given
 

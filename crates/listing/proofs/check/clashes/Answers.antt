@@ -4,9 +4,9 @@ use mathlib.Core.List.{map}
 use native.Mathlib.Omega.{arith}
 use lib.ListN.{length, length-replicate, length-map}
 use Rattle.std.proofs.shelf.Lists.{length-take}
-use Rattle.job.specs.Fixed.{list-of}
+use Rattle.fixed.specs.Fixed.{list-of}
 use Rattle.job.specs.Records.{job-of, jobs-of, draft-of}
-use Rattle.job.proofs.Admitting.{pushed-room}
+use Rattle.fixed.proofs.Pushing.{pushed-room}
 use Rattle.job.proofs.Highest.{job-read}
 use Rattle.listing.proofs.Rows.{rows-more, rows-all, earlier-more, clash-here}
 use Rattle.listing.proofs.check.clashes.Needs as need

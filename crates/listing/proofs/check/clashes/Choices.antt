@@ -1,7 +1,7 @@
 use mathlib.Core.Path.{_≡_}
 use mathlib.Core.List.{map}
 use lib.ListN.{length, take}
-use Rattle.job.specs.Fixed.{list-of}
+use Rattle.fixed.specs.Fixed.{list-of}
 use Rattle.job.specs.Records.{job-of, jobs-of}
 use Rattle.listing.proofs.Rows.{Rows-to}
 use Rattle.listing.proofs.check.clashes.Given as given

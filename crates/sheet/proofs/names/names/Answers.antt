@@ -1,7 +1,7 @@
 use borrow.Author.Needs.{needs}
 use mathlib.Core.Path.{sym, ap, _∙_}
 use Rattle.std.proofs.shelf.Tests.{leb-true}
-use Rattle.job.specs.Fixed.{list-of}
+use Rattle.fixed.specs.Fixed.{list-of}
 use Rattle.sheet.specs.Reading.{pieces-of}
 use Rattle.sheet.proofs.Gathered.{named, named-start, named-full}
 use Rattle.sheet.proofs.Steps.{fresh-pieces}

@@ -1,6 +1,6 @@
 use mathlib.Core.Path.{_≡_}
 use lib.ListN.{length}
-use Rattle.job.specs.Fixed.{list-of}
+use Rattle.fixed.specs.Fixed.{list-of}
 use Rattle.spelling.specs.Lines.{names}
 use Rattle.sheet.specs.Reading.{pieces-of}
 use Rattle.sheet.proofs.Gathered.{named}

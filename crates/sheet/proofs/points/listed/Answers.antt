@@ -3,8 +3,8 @@ use mathlib.Core.Path.{ap, _∙_}
 use mathlib.Core.List.{_∷_}
 use lib.ListN.{length}
 use Rattle.std.proofs.shelf.Lists.{length-push}
-use Rattle.job.specs.Fixed.{list-of}
-use Rattle.job.proofs.Admitting.{pushed-room}
+use Rattle.fixed.specs.Fixed.{list-of}
+use Rattle.fixed.proofs.Pushing.{pushed-room}
 use Rattle.spelling.specs.Fields.{number}
 use Rattle.sheet.specs.Reading.{pieces-of}
 use Rattle.sheet.proofs.Gathered.{onward-start, onward-step}

@@ -1,7 +1,7 @@
 use Prim.Native.Nat.{_+_, _≤_}
 use mathlib.Core.Path.{_≡_}
 use lib.ListN.{length}
-use Rattle.job.specs.Fixed.{list-of}
+use Rattle.fixed.specs.Fixed.{list-of}
 use Rattle.spelling.specs.Fields.{number}
 use Rattle.spelling.specs.Texts.{all-of, cut, each}
 use Rattle.sheet.specs.Reading.{pieces-of}

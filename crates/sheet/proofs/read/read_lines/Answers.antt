@@ -1,6 +1,6 @@
 use mathlib.Core.Path.{sym, ap, _∙_}
 use Rattle.std.proofs.shelf.Results.{cases-at-ok}
-use Rattle.job.specs.Fixed.{list-of}
+use Rattle.fixed.specs.Fixed.{list-of}
 use Rattle.job.specs.Records.{jobs-of}
 use Rattle.spelling.specs.Texts.{cut}
 use Rattle.sheet.specs.Reading.{rest-of}

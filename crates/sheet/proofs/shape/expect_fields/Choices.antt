@@ -3,7 +3,7 @@ use mathlib.Core.Path.{_≡_}
 use mathlib.Core.List.{List}
 use mathlib.Core.Bool.{not}
 use lib.ListN.{length}
-use Rattle.job.specs.Lists.{every}
+use Rattle.fixed.specs.Lists.{every}
 use Rattle.spelling.specs.Texts.{all-of, cut, empty}
 use Rattle.sheet.specs.Reading.{pieces-of}
 use Rattle.sheet.proofs.shape.expect_fields.Given as given

@@ -1,7 +1,7 @@
 use mathlib.Core.Path.{refl, sym, ap, _∙_}
 use Rattle.std.proofs.shelf.Results.{err-from-errBy}
 use Rattle.std.specs.declared.result.Result.the-variants.{Ok, Err}
-use Rattle.job.specs.Results.{or-else}
+use Rattle.fixed.specs.Results.{or-else}
 use Rattle.job.specs.Wires.{wired}
 use Rattle.job.specs.Wiring.{wires-of}
 use Rattle.spelling.specs.Faults.{wire-fault}

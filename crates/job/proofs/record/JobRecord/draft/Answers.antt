@@ -10,10 +10,10 @@ use Rattle.std.proofs.shelf.Lists.{take-more, take-all}
 use Rattle.std.proofs.shelf.Parts.{pushed}
 use Rattle.std.proofs.shelf.Tests.{le-leb}
 use Rattle.std.specs.Of.Vec.{vec-items}
-use Rattle.job.specs.Fixed.{list-of}
-use Rattle.job.specs.Lists.{every, distinct}
+use Rattle.fixed.specs.Fixed.{list-of}
+use Rattle.fixed.specs.Lists.{every, distinct}
 use Rattle.job.proofs.Admitting.{admitted-within}
-use Rattle.job.proofs.Counts.{every-push}
+use Rattle.fixed.proofs.Scans.{every-push}
 use Rattle.job.proofs.record.JobRecord.draft.Needs as need
 
 pub loop-p-again : need.loop-p-again

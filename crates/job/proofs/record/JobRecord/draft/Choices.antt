@@ -4,7 +4,7 @@ use mathlib.Core.Bool.{true}
 use lib.Dec.{leb}
 use lib.ListN.{take}
 use Rattle.std.specs.Of.Vec.{vec-items}
-use Rattle.job.specs.Lists.{every}
+use Rattle.fixed.specs.Lists.{every}
 use Rattle.job.proofs.record.JobRecord.draft.Given as given
 
 abbrev pub Inv-loop-p : given.InvT-loop-p

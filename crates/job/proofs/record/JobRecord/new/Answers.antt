@@ -1,5 +1,5 @@
 use mathlib.Core.Path.{sym}
-use Rattle.job.specs.Fixed.{list-of}
+use Rattle.fixed.specs.Fixed.{list-of}
 use Rattle.job.proofs.Admitting.{assembled-twice, assembled-whole}
 use Rattle.job.proofs.record.JobRecord.new.Needs as need
 

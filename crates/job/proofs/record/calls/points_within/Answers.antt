@@ -5,9 +5,10 @@ use lib.Dec.{leb}
 use lib.ListN.{length}
 use Rattle.std.proofs.shelf.Lists.{take-more, length-take}
 use Rattle.std.proofs.shelf.Tests.{le-leb}
-use Rattle.job.specs.Fixed.{list-of}
-use Rattle.job.proofs.Admitting.{pushed-room, bounded-fails, bounded-holds}
-use Rattle.job.proofs.Scans.{every-stays}
+use Rattle.fixed.specs.Fixed.{list-of}
+use Rattle.job.proofs.Admitting.{bounded-fails, bounded-holds}
+use Rattle.fixed.proofs.Pushing.{pushed-room}
+use Rattle.fixed.proofs.Scans.{every-stays}
 use Rattle.job.proofs.record.calls.points_within.Needs as need
 
 pub returns-then-p-gt255 : need.returns-then-p-gt255

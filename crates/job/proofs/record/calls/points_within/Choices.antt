@@ -3,8 +3,8 @@ use mathlib.Core.Bool.{Bool}
 use Prim.Native.Nat.{ℕ}
 use lib.Dec.{leb}
 use lib.ListN.{take, drop}
-use Rattle.job.specs.Fixed.{list-of}
-use Rattle.job.specs.Lists.{every}
+use Rattle.fixed.specs.Fixed.{list-of}
+use Rattle.fixed.specs.Lists.{every}
 use Rattle.job.proofs.record.calls.points_within.Given as given
 
 abbrev pub Inv-loop-p : given.InvT-loop-p

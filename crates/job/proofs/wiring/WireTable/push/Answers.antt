@@ -5,10 +5,10 @@ use native.Mathlib.Omega.{arith}
 use Prim.Native.Nat.{ℕ, _<_}
 use lib.Dec.{leb}
 use Rattle.std.proofs.shelf.Tests.{leb-false}
-use Rattle.job.specs.Fixed.{list-of}
-use Rattle.job.specs.Lists.{every}
+use Rattle.fixed.specs.Fixed.{list-of}
+use Rattle.fixed.specs.Lists.{every}
 use Rattle.job.specs.Wires.{leads-on, tally}
-use Rattle.job.proofs.Admitting.{pushed-room}
+use Rattle.fixed.proofs.Pushing.{pushed-room}
 use Rattle.job.proofs.Counts.{wired-full, wired-itself, wired-fifth, wired-well, counted-push, onward-push, four-push}
 use Rattle.job.proofs.wiring.WireTable.push.Needs as need
 

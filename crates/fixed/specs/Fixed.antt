@@ -5,7 +5,7 @@ use mathlib.Core.List.{List, [], _∷_, _++_}
 use lib.ListN.{length, take}
 use Rattle.std.specs.Results.{Cases}
 use Rattle.std.specs.declared.result.Result.{Result}
-use Rattle.job.specs.declared.fixed.FixedList.{FixedList}
+use Rattle.fixed.specs.declared.list.FixedList.{FixedList}
 
 abbrev pub list-of : {T : Type 0} {N : ℕ} → FixedList T N → List T
 list-of l = take (l .len) (l .items)

@@ -1,6 +1,6 @@
 use native.Mathlib.Omega.{arith}
 use lib.ListN.{length-replicate}
-use Rattle.job.proofs.fixed.FixedList.new.Needs as need
+use Rattle.fixed.proofs.list.FixedList.new.Needs as need
 
 pub ghost-result : need.ghost-result
 ghost-result g c = (length-replicate _ _, (omega arith, tt))

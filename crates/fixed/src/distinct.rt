@@ -1,5 +1,5 @@
 ghost use mathlib.Core.Path.{_≡_};
-ghost use Rattle.job.specs.Lists.{has, distinct};
+ghost use Rattle.fixed.specs.Lists.{has, distinct};
 
 fn holds(numbers: &[u8], n: u8) -> bool
     ensures { λ r. ⌜ r ≡ has (now (numbers .entry)) n ⌝ }

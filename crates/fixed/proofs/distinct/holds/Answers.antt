@@ -2,9 +2,9 @@ use mathlib.Core.Path.{sym, _∙_}
 use lib.Dec.{eqb}
 use Rattle.std.proofs.shelf.Lists.{at-drop-all}
 use Rattle.std.proofs.shelf.Tests.{eq-eqb, ne-eqb}
-use Rattle.job.specs.Lists.{some}
-use Rattle.job.proofs.Scans.{some-found, some-stays}
-use Rattle.job.proofs.distinct.holds.Needs as need
+use Rattle.fixed.specs.Lists.{some}
+use Rattle.fixed.proofs.Scans.{some-found, some-stays}
+use Rattle.fixed.proofs.distinct.holds.Needs as need
 
 pub returns-then-m-n : need.returns-then-m-n
 returns-then-m-n c = sym (c .loop-m .inv ∙ some-found (λ x. eqb x (c .args .n)) (c .args .numbers .now) (c .loop-m .m-index) 0 (c .loop-m-test .taken) (eq-eqb _ _ (c .if-m-n .taken)))

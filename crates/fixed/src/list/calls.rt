@@ -3,8 +3,8 @@ ghost use mathlib.Core.List.{[]};
 ghost use Prim.Native.Nat.{_≤_};
 ghost use lib.Dec.{leb};
 ghost use lib.ListN.{length};
-ghost use Rattle.job.specs.Fixed.{list-of, Pushed};
-use crate::fixed::FixedList;
+ghost use Rattle.fixed.specs.Fixed.{list-of, Pushed};
+use crate::list::FixedList;
 
 impl<T: Copy, const N: usize> FixedList<T, N> {
     // A list without elements; `blank` fills the places that are not in use.
