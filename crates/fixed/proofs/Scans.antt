@@ -1,10 +1,10 @@
 -- A loop's test of each element: one step on, found, and at the end.
-use Prim.Native.Nat.{ℕ, zero, suc, _+_, _-_, _<_, _≤_}
+use Prim.Native.Nat.{ℕ, zero, suc, _+_, _-_, _<_}
 use mathlib.Core.Path.{_≡_, refl, sym, _∙_}
 use mathlib.Core.List.{List, [], _∷_, _++_}
-use mathlib.Core.Bool.{Bool, true, false, not, _&&_, _||_}
+use mathlib.Core.Bool.{Bool, true, false, _||_}
 use lib.ListN.{length, getD, set, take, drop}
-use Rattle.std.proofs.shelf.Lists.{at-drop-more, at-drop-all, take-rest}
+use Rattle.std.proofs.shelf.Lists.{at-drop-more, take-rest}
 use Rattle.std.proofs.shelf.Tests.{and-parts}
 use Rattle.fixed.specs.Lists.{some, every, has, distinct}
 

@@ -1,25 +1,22 @@
 -- Parts that are checked one by one make an admitted job.
-use Prim.Native.Nat.{ℕ, _+_, _<_, _≤_}
-use mathlib.Core.Path.{_≡_, refl, sym, ap, _∙_}
-use mathlib.Core.List.{List, [], _∷_, _++_}
-use mathlib.Core.Bool.{Bool, true, false, cond, _&&_}
+use Prim.Native.Nat.{ℕ, _<_, _≤_}
+use mathlib.Core.Path.{_≡_, sym, ap, _∙_}
+use mathlib.Core.List.{List}
+use mathlib.Core.Bool.{Bool, true, false}
 use native.Mathlib.Omega.{arith}
 use lib.Dec.{leb}
 use lib.ListN.{length, getD, take, drop}
-use Rattle.std.proofs.shelf.Lists.{take-more, take-all, at-drop-all, length-take-le}
+use Rattle.std.proofs.shelf.Lists.{take-all, at-drop-all}
 use Rattle.std.proofs.shelf.Tests.{le-leb, lt-leb}
 use Rattle.std.specs.declared.result.Result.{Result}
 use Rattle.std.specs.declared.result.Result.the-variants.{Ok, Err}
-use Rattle.job.specs.declared.fault.FieldFault.{FieldFault}
 use Rattle.job.specs.declared.fault.FieldFault.the-variants.{AboveRange}
-use Rattle.job.specs.declared.fault.JobFault.{JobFault}
 use Rattle.job.specs.declared.fault.JobFault.the-variants.{Field, PointTwice}
 use Rattle.job.specs.Admitted.{letter-within, urgency-within, points-within, admitted, assembled}
-use Rattle.fixed.specs.Fixed.{Pushed}
 use Rattle.fixed.specs.Lists.{every, distinct}
 use Rattle.job.specs.Plain.{Job}
 use Rattle.fixed.specs.Results.{given, and-then, or-else}
-use Rattle.fixed.proofs.Scans.{every-stays, every-fails}
+use Rattle.fixed.proofs.Scans.{every-fails}
 
 -- what a test lets pass is unchanged
 pub passes-same : {A E : Type 0} (b : Bool) (e : E) (x y : A) → Ok y ≡ given b e (Ok x) → y ≡ x

@@ -2,22 +2,22 @@
 use Prim.Native.Nat.{ℕ, _+_, _-_, _<_, _≤_}
 use mathlib.Core.Path.{_≡_, refl, sym, ap, subst, _∙_}
 use mathlib.Core.List.{List, [], _∷_, _++_, map}
-use mathlib.Core.Logic.{_≢_, _⊎_, inl, inr, ⊎-elim}
+use mathlib.Core.Logic.{_≢_, _⊎_, ⊎-elim}
 use mathlib.Core.Bool.{Bool, true, false, not, _||_}
 use native.Mathlib.Omega.{arith}
 use lib.Dec.{eqb}
-use lib.ListN.{length, getD, set, take, drop, replicate, length-set, length-replicate, length-map}
+use lib.ListN.{length, getD, set, take, replicate, length-set, length-replicate, length-map}
 use Rattle.std.proofs.shelf.Lists.{take-more, take-all, take-more-set, replicate-more, getD-set-same, getD-set-other, getD-replicate, getD-past, getD-map}
 use Rattle.std.proofs.shelf.Tests.{eqb-true, eqb-false, cases-lt}
 use Rattle.std.specs.declared.option.Option.{Option}
 use Rattle.std.specs.declared.option.Option.the-variants.{Some, None}
-use Rattle.std.specs.declared.result.Result.the-variants.{Ok, Err}
+use Rattle.std.specs.declared.result.Result.the-variants.{Ok}
 use Rattle.job.specs.declared.record.JobRecord.{JobRecord}
 use Rattle.job.specs.Admitted.{admitted, no-record}
 use Rattle.fixed.specs.Lists.{some, has}
 use Rattle.job.specs.Plain.{Job}
 use Rattle.job.specs.Records.{job-of}
-use Rattle.job.specs.Preview.{blank-marks, marked, Marked, Unmarked-from, Highest-marked, Clear-from, Highest-clash, job-at}
+use Rattle.job.specs.Preview.{blank-marks, marked, Marked, Unmarked-from, Highest-marked, Highest-clash, job-at}
 use Rattle.job.proofs.Admitting.{admitted-same}
 use Rattle.fixed.proofs.Pushing.{by-bool}
 use Rattle.fixed.proofs.Scans.{some-push, some-same}

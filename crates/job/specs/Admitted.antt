@@ -5,7 +5,7 @@ use mathlib.Core.Bool.{_&&_}
 use lib.Dec.{leb}
 use lib.ListN.{length}
 use Rattle.std.specs.declared.result.Result.{Result}
-use Rattle.std.specs.declared.result.Result.the-variants.{Ok, Err}
+use Rattle.std.specs.declared.result.Result.the-variants.{Ok}
 use Rattle.job.specs.declared.fault.FieldFault.{FieldFault}
 use Rattle.job.specs.declared.fault.FieldFault.the-variants.{AboveRange, UnknownLetter, TooManyPoints}
 use Rattle.job.specs.declared.fault.JobFault.{JobFault}

@@ -1,5 +1,4 @@
 -- What records, drafts and tables mean as plain jobs.
-use Prim.Native.Nat.{ℕ}
 use mathlib.Core.List.{List, map}
 use Rattle.std.specs.Of.Vec.{vec-items}
 use Rattle.job.specs.declared.draft.JobDraft.{JobDraft}

@@ -4,7 +4,6 @@ use mathlib.Core.List.{List, _∷_, _++_}
 use Rattle.std.specs.Written.{decimal}
 use Rattle.job.specs.declared.fault.FieldFault.{FieldFault}
 use Rattle.job.specs.declared.fault.FieldFault.the-variants.{NoNumber, AboveRange, UnknownLetter, TooManyPoints}
-use Rattle.job.specs.declared.fault.JobFault.{JobFault}
 use Rattle.job.specs.declared.fault.JobFault.the-variants.{Field, PointTwice}
 use Rattle.job.specs.declared.fault.PreviewFault.{PreviewFault}
 use Rattle.job.specs.declared.fault.PreviewFault.the-variants.{WrongLength, Candidate}

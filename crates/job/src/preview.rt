@@ -1,6 +1,5 @@
 ghost use mathlib.Core.Path.{_≡_};
 ghost use mathlib.Core.List.{map};
-ghost use Prim.Native.Nat.{_≤_};
 ghost use lib.ListN.{length};
 ghost use Rattle.fixed.specs.Lists.{some};
 ghost use Rattle.job.specs.Records.{job-of, jobs-of, draft-of};

@@ -1,5 +1,4 @@
 -- The numbers by which a checked sheet is refused.
-use Prim.Native.Nat.{ℕ}
 use Rattle.std.specs.declared.option.Option.{Option}
 use Rattle.std.specs.declared.option.Option.the-variants.{Some, None}
 use Rattle.job.specs.declared.refusal.Refusal.{Refusal}

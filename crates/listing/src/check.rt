@@ -1,4 +1,3 @@
-ghost use mathlib.Core.Path.{_≡_};
 ghost use Rattle.std.specs.Vec.{made};
 ghost use Rattle.fixed.specs.Fixed.{list-of};
 ghost use Rattle.job.specs.Records.{jobs-of};

@@ -2,17 +2,18 @@
 use Prim.Native.Nat.{ℕ, _+_, _<_, _≤_}
 use mathlib.Core.Path.{_≡_, refl, sym, ap, _∙_}
 use mathlib.Core.List.{List, [], _∷_, _++_, map, append-nil, append-assoc}
-use mathlib.Core.Bool.{Bool, true, false, cond, _&&_}
+use mathlib.Core.Bool.{Bool}
 use native.Mathlib.Omega.{arith}
-use lib.Dec.{eqb}
 use lib.ListN.{length, getD}
-use Rattle.std.proofs.shelf.Lists.{length-append}
+use Rattle.std.proofs.shelf.Lists.{length-append, length-push}
 use Rattle.std.proofs.shelf.Tests.{eq-eqb, ne-eqb}
 use Rattle.std.specs.declared.result.Result.{Result}
 use Rattle.std.specs.declared.result.Result.the-variants.{Ok, Err}
 use Rattle.fixed.specs.Lists.{distinct}
 use Rattle.fixed.specs.Results.{and-then, given}
 use Rattle.fixed.proofs.Pushing.{by-bool}
+use Rattle.fixed.specs.Fixed.{Pushed}
+use Rattle.fixed.proofs.Pushing.{pushed-room}
 use Rattle.spelling.specs.declared.column.Column.{Column}
 use Rattle.spelling.specs.declared.fault.LineFault.{LineFault}
 use Rattle.spelling.specs.declared.fault.LineFault.the-variants.{JobNames}
@@ -92,5 +93,12 @@ module _ {A B E : Type 0} (f : A → Result B E) where
   pub onward-start : (acc : List B) (ts us : List A) → acc ≡ [] → ts ≡ us → onward f acc ts ≡ each f us
   onward-start acc ts us p q = rw (p, q) (onward-none f us)
 
-  pub onward-step : (acc acc′ : List B) (ts us : List A) (t : A) (y : B) (r : Result (List B) E) → ts ≡ t ∷ us → Ok y ≡ f t → acc′ ≡ acc ++ (y ∷ []) → onward f acc ts ≡ r → onward f acc′ us ≡ r
-  onward-step acc acc′ ts us t y r p q s e = sym (rw (p, ← q) (ap (λ (l : List B). onward f l us) (sym s))) ∙ e
+  -- one piece more that is read and pushed, where all fit
+  pub onward-step : (n : ℕ) (was is : List B) (ts us : List A) (t : A) (y : B) (p : Result (Unit {0}) B) (r : Result (List B) E) →
+      ts ≡ t ∷ us → Ok y ≡ f t → Pushed n (λ x. x) was y p is → (length was + length ts ≤ n) × (onward f was ts ≡ r) → (length is + length us ≤ n) × (onward f is us ≡ r)
+  onward-step n was is ts us t y p r e q h (l, i) =
+      let m = ap length e in
+      let k : length was < n = omega arith in
+      let s = pushed-room n (λ x. x) was y p is k h in
+      let z = ap length s ∙ length-push was y in
+      (omega arith, sym (rw (e, ← q) (ap (λ (l : List B). onward f l us) (sym s))) ∙ i)

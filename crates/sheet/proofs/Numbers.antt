@@ -1,9 +1,9 @@
 -- The digits of a number, one by one.
 use Prim.Native.Nat.{ℕ, _+_, _-_, _*_, _<_, _≤_}
-use mathlib.Core.Path.{_≡_, refl, sym, ap, _∙_}
-use mathlib.Core.Logic.{_⊎_, inl, inr}
-use mathlib.Core.List.{List, [], _∷_}
-use mathlib.Core.Bool.{Bool, true, false, _&&_}
+use mathlib.Core.Path.{_≡_}
+use mathlib.Core.Logic.{_⊎_}
+use mathlib.Core.List.{List}
+use mathlib.Core.Bool.{true, false}
 use native.Mathlib.Omega.{arith}
 use lib.ListN.{length, getD, take}
 use Rattle.std.proofs.shelf.Digits.{value-more, digits-more}
@@ -15,7 +15,6 @@ use Rattle.std.specs.shelf.Text.{allDigits}
 use Rattle.std.specs.Text.{In, digitValue}
 use Rattle.std.specs.Reads.{value}
 use Rattle.std.specs.declared.result.Result.the-variants.{Ok, Err}
-use Rattle.job.specs.declared.fault.FieldFault.{FieldFault}
 use Rattle.job.specs.declared.fault.FieldFault.the-variants.{NoNumber, AboveRange}
 use Rattle.fixed.proofs.Pushing.{by-bool}
 use Rattle.spelling.specs.Fields.{number}

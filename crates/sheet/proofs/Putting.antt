@@ -2,11 +2,12 @@
 use Prim.Native.Nat.{ℕ, _+_, _<_, _≤_}
 use mathlib.Core.Path.{_≡_, refl, sym, ap, _∙_}
 use mathlib.Core.List.{List, [], _∷_, _++_}
-use mathlib.Core.Bool.{Bool, true, false, not, _&&_}
+use mathlib.Core.Bool.{false, not, _&&_}
 use native.Mathlib.Omega.{arith}
 use lib.Dec.{leb, eqb}
 use lib.ListN.{length, getD, drop}
 use Rattle.std.proofs.shelf.Lists.{at-drop-more, at-drop-all}
+use Rattle.std.proofs.shelf.Results.{cases-at-ok, cases-at-err}
 use Rattle.std.proofs.shelf.Tests.{and-parts, eqb-true, leb-false, lt-ltb}
 use Rattle.std.specs.declared.result.Result.{Result}
 use Rattle.std.specs.declared.result.Result.the-variants.{Ok, Err}
@@ -30,6 +31,7 @@ use Rattle.spelling.specs.Texts.{cut, all-of, empty}
 use Rattle.sheet.specs.Fields.{Reads}
 use Rattle.sheet.specs.Reading.{head-of, tail-of, placed}
 use Rattle.sheet.specs.Tables.{Adds}
+use Rattle.sheet.specs.Values.{Puts}
 
 -- two steps that a refused one keeps from being taken
 same-refusal : {A B C E : Type 0} (r : Result A E) (g : A → B) (h : A → C) (e : E) → Err e ≡ and-then r (λ x. Ok (g x)) → and-then r (λ x. Ok (h x)) ≡ Err e
@@ -41,6 +43,13 @@ put-refused Proc t at j e h = same-refusal (letter t) _ _ e h
 put-refused Arg t at j e h = same-refusal (number 4294967295 t) _ _ e h
 put-refused Urg t at j e h = same-refusal (number 9 t) _ _ e h
 put-refused Points t at j e h = absurd h
+
+-- what is known of a field that was put, and of one that was refused
+pub put-ok : (c : Column) (t : List ℕ) (was is : Job) (r : Result (Unit {0}) FieldFault) (u : Unit {0}) → r ≡ Ok u → Puts c t was r is → put c t was ≡ Ok is
+put-ok c t was is r u e h = cases-at-ok (λ _. put c t was ≡ Ok is) (λ e. (put c t was ≡ Err e) × (is ≡ was)) u e h
+
+pub put-err : (c : Column) (t : List ℕ) (was is : Job) (r : Result (Unit {0}) FieldFault) (f : FieldFault) → r ≡ Err f → Puts c t was r is → put c t was ≡ Err f
+put-err c t was is r f e h = cases-at-err (λ _. put c t was ≡ Ok is) (λ e. (put c t was ≡ Err e) × (is ≡ was)) f e h .0
 
 -- ## A fault with its place
 pub placed-ok : {T E : Type 0} (k : ℕ) (r : Result T E) (x : T) → Ok x ≡ placed k r → r ≡ Ok x
@@ -82,16 +91,19 @@ pub wire-line-is : (ws : List Wire) (l : List ℕ) → leb 256 (length ws) ≡ f
     wire-line ws l ≡ and-then (wire-fields (all-of (cut 32 l))) (λ w. or-else (wired ws w) wire-fault)
 wire-line-is ws l h s = rw (lt-ltb (length ws) 256 (leb-false _ _ h), s)
 
--- two steps, of which the first or the second is refused, or neither
-module _ {A B E : Type 0} {a : Result B E} (r : Result A E) (f : A → Result B E) (is : a ≡ and-then r f) where
-  pub first-refused : (e : E) → r ≡ Err e → a ≡ Err e
-  first-refused e h = is ∙ rw h
+-- the wire of a line that is not one too many, and that has three fields
+module _ (ws : List Wire) (l : List ℕ) (room : false ≡ leb 256 (length ws)) (shape : Ok (tt {0}) ≡ and-then (split 3 l) (λ _. Ok (tt {0}))) where
+  line-is : wire-line ws l ≡ and-then (wire-fields (all-of (cut 32 l))) (λ w. or-else (wired ws w) wire-fault)
+  line-is = wire-line-is ws l (sym room) (split-ok 3 l shape .0)
 
-  pub second-is : (x : A) (s : Result B E) → r ≡ Ok x → f x ≡ s → a ≡ s
-  second-is x s h k = is ∙ rw (h, k)
+  pub wire-refused : (e : LineFault) → Err e ≡ wire-fields (all-of (cut 32 l)) → wire-line ws l ≡ Err e
+  wire-refused e h = line-is ∙ rw (← h)
 
-pub adds-ok : {T E : Type 0} (a : Result T E) (x : T) (was now : List T) → a ≡ Ok x → now ≡ was ++ (x ∷ []) → Adds a was now
-adds-ok a x was now e h = rw e h
+  pub wire-faulty : (w : Wire) (f : WireFault) → Ok w ≡ wire-fields (all-of (cut 32 l)) → wired ws w ≡ Err f → wire-line ws l ≡ Err (wire-fault f)
+  wire-faulty w f h k = line-is ∙ rw (← h, k)
+
+  pub wire-taken : (w : Wire) (vs : List Wire) → Ok w ≡ wire-fields (all-of (cut 32 l)) → wired ws w ≡ Ok w → vs ≡ ws ++ (w ∷ []) → Adds (wire-line ws l) ws vs
+  wire-taken w vs h k e = let a : wire-line ws l ≡ Ok w = line-is ∙ rw (← h, k) in rw a e
 
 -- ## The fields of a wire
 wire-fields-are : (ts : List (List ℕ)) → length ts ≡ 3 → wire-fields ts ≡

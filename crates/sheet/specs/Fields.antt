@@ -5,7 +5,7 @@ use mathlib.Core.List.{List}
 use Rattle.std.specs.Results.{Cases}
 use Rattle.std.specs.Written.{decimal}
 use Rattle.std.specs.declared.result.Result.{Result}
-use Rattle.std.specs.declared.result.Result.the-variants.{Ok, Err}
+use Rattle.std.specs.declared.result.Result.the-variants.{Ok}
 use Rattle.job.specs.declared.fault.FieldFault.{FieldFault}
 use Rattle.fixed.specs.Results.{and-then}
 use Rattle.spelling.specs.declared.column.Column.{Column}

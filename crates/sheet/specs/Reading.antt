@@ -7,7 +7,7 @@ use denote.Ref.{RefT}
 use lib.ListN.{length, take, drop}
 use Rattle.std.specs.Options as options
 use Rattle.std.specs.declared.option.Option.{Option}
-use Rattle.spelling.specs.Texts.{Pieces, last, more, cut, all-of}
+use Rattle.spelling.specs.Texts.{last, more, cut, all-of}
 use Rattle.std.specs.declared.result.Result.{Result}
 use Rattle.std.specs.declared.result.Result.the-variants.{Ok, Err}
 use Rattle.sheet.specs.declared.reader.Reader.{Reader}

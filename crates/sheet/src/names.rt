@@ -1,5 +1,4 @@
 ghost use mathlib.Core.Path.{_≡_};
-ghost use lib.ListN.{length};
 ghost use Rattle.fixed.specs.Fixed.{list-of};
 ghost use Rattle.fixed.specs.Results.{Means};
 ghost use Rattle.spelling.specs.Lines.{column as column-of, place as place-of, order-of-four, names as names-of};

@@ -1,6 +1,4 @@
 -- Faults: a wire's in its line, and the numbers of a sheet's.
-use Prim.Native.Nat.{ℕ}
-use Rattle.job.specs.declared.fault.FieldFault.{FieldFault}
 use Rattle.job.specs.declared.fault.WireFault.{WireFault}
 use Rattle.job.specs.declared.fault.WireFault.the-variants.{TableFull, ToItself, FifthFromPoint}
 use Rattle.job.specs.declared.refusal.Refusal.{Refusal}

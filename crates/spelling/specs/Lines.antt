@@ -1,7 +1,7 @@
 -- Lines: the names of the columns, a job, a wire.
 use Prim.Native.Nat.{ℕ, _+_}
 use mathlib.Core.List.{List, [], _∷_, map}
-use mathlib.Core.Bool.{Bool, true, false, cond, not, _&&_}
+use mathlib.Core.Bool.{Bool, cond, not, _&&_}
 use lib.Chars.{codes}
 use lib.Dec.{ltb, eqb}
 use lib.ListN.{length}

@@ -1,7 +1,7 @@
 -- The sheet: from bytes to tables, or to the first fault.
 use Prim.Native.Nat.{ℕ, _+_}
 use mathlib.Core.List.{List, [], _∷_, _++_}
-use mathlib.Core.Bool.{Bool, true, false, cond, not}
+use mathlib.Core.Bool.{cond, not}
 use lib.Chars.{codes}
 use lib.Dec.{ltb}
 use lib.ListN.{length}
@@ -11,7 +11,6 @@ use Rattle.job.specs.declared.wire.Wire.{Wire}
 use Rattle.job.specs.Plain.{Job}
 use Rattle.fixed.specs.Results.{and-then, or-else, given}
 use Rattle.spelling.specs.declared.column.Column.{Column}
-use Rattle.spelling.specs.declared.fault.LineFault.{LineFault}
 use Rattle.spelling.specs.declared.fault.LineFault.the-variants.{JobNames, WireNames, Unended, TooManyJobs, TooManyWires}
 use Rattle.spelling.specs.declared.fault.SheetFault.{SheetFault}
 use Rattle.spelling.specs.declared.fault.SheetFault.the-variants.{NoBytes, AtLine}

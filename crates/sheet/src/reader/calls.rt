@@ -1,8 +1,6 @@
 ghost use mathlib.Core.Path.{_≡_};
 ghost use mathlib.Core.Bool.{true, false};
-ghost use Prim.Native.Nat.{_≤_, _<_};
-ghost use lib.ListN.{length};
-ghost use Rattle.spelling.specs.Texts.{all-of, cut};
+ghost use Prim.Native.Nat.{_<_};
 ghost use Rattle.sheet.specs.Reading.{Ends, rest-of, pieces-of, Next-line, Next-piece};
 use crate::reader::Reader;
 

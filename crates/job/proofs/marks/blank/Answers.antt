@@ -1,7 +1,4 @@
-use mathlib.Core.Path.{sym, ap, _∙_}
-use mathlib.Core.List.{[], _∷_, _++_}
 use native.Mathlib.Omega.{arith}
-use lib.ListN.{replicate}
 use Rattle.job.proofs.Highest.{blank-step, blank-end}
 use Rattle.job.proofs.marks.blank.Needs as need
 

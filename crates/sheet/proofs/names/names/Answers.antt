@@ -1,9 +1,7 @@
-use borrow.Author.Needs.{needs}
-use mathlib.Core.Path.{sym, ap, _∙_}
+use mathlib.Core.Path.{sym, _∙_}
 use Rattle.std.proofs.shelf.Tests.{leb-true}
 use Rattle.fixed.specs.Fixed.{list-of}
-use Rattle.sheet.specs.Reading.{pieces-of}
-use Rattle.sheet.proofs.Gathered.{named, named-start, named-full}
+use Rattle.sheet.proofs.Gathered.{named-start, named-full}
 use Rattle.sheet.proofs.Steps.{fresh-pieces}
 use Rattle.sheet.proofs.names.names.Needs as need
 

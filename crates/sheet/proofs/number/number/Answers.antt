@@ -1,5 +1,4 @@
 use borrow.Author.Needs.{needs}
-use native.Mathlib.Omega.{arith}
 use Rattle.sheet.proofs.Promised.{written-exactly}
 use Rattle.sheet.proofs.number.number.Needs as need
 

@@ -1,8 +1,5 @@
-use Prim.Native.Nat.{_<_}
-use mathlib.Core.Path.{_≡_}
 use mathlib.Core.Logic.{inl, inr}
 use native.Mathlib.Omega.{arith}
-use lib.ListN.{length, getD}
 use Rattle.sheet.proofs.Numbers.{number-none, digits-next, near-next, number-ends}
 use Rattle.sheet.proofs.number.parse.Needs as need
 use Rattle.sheet.proofs.number.parse.Needs.{then-n-most, else-n-most, else-text-gt1·by·then-text-gt1·else-text-eq48, else-text-gt1·by·else-text-gt1}

@@ -1,4 +1,3 @@
-use mathlib.Core.Path.{sym, _∙_}
 use Rattle.job.specs.Records.{jobs-of}
 use Rattle.job.specs.Wiring.{wires-of}
 use Rattle.spelling.specs.Texts.{cut}

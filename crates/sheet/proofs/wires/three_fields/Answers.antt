@@ -1,4 +1,3 @@
-use mathlib.Core.Path.{sym}
 use Rattle.std.proofs.shelf.Results.{err-from-errBy}
 use Rattle.spelling.specs.Texts.{all-of, cut}
 use Rattle.sheet.specs.Reading.{pieces-of}

@@ -1,7 +1,6 @@
-use borrow.Author.Needs.{needs}
 use Prim.Native.Nat.{ℕ, _≤_}
-use mathlib.Core.Path.{_≡_, refl, sym, ap, subst, _∙_}
-use mathlib.Core.List.{List, [], _∷_}
+use mathlib.Core.Path.{_≡_, refl, _∙_}
+use mathlib.Core.List.{[], _∷_}
 use mathlib.Core.Bool.{true}
 use native.Mathlib.Omega.{arith}
 use lib.Dec.{leb}
@@ -10,8 +9,7 @@ use Rattle.std.proofs.shelf.Lists.{take-more, take-all}
 use Rattle.std.proofs.shelf.Parts.{pushed}
 use Rattle.std.proofs.shelf.Tests.{le-leb}
 use Rattle.std.specs.Of.Vec.{vec-items}
-use Rattle.fixed.specs.Fixed.{list-of}
-use Rattle.fixed.specs.Lists.{every, distinct}
+use Rattle.fixed.specs.Lists.{distinct}
 use Rattle.job.proofs.Admitting.{admitted-within}
 use Rattle.fixed.proofs.Scans.{every-push}
 use Rattle.job.proofs.record.JobRecord.draft.Needs as need

@@ -1,4 +1,4 @@
-use mathlib.Core.Path.{_≡_, refl, ap}
+use mathlib.Core.Path.{refl}
 use Rattle.job.proofs.wiring.WireTable.new.Needs as need
 use Rattle.job.proofs.Counts.{none-counted, none-onward}
 

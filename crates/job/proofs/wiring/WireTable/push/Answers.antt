@@ -1,9 +1,6 @@
 use borrow.Author.Needs.{needs}
 use mathlib.Core.Path.{_≡_, refl, sym, ap, _∙_}
 use mathlib.Core.Bool.{true}
-use native.Mathlib.Omega.{arith}
-use Prim.Native.Nat.{ℕ, _<_}
-use lib.Dec.{leb}
 use Rattle.std.proofs.shelf.Tests.{leb-false}
 use Rattle.fixed.specs.Fixed.{list-of}
 use Rattle.fixed.specs.Lists.{every}

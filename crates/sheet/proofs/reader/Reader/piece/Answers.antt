@@ -1,9 +1,4 @@
-use mathlib.Core.Path.{_≡_, refl, ap, _∙_}
-use mathlib.Core.List.{[], _∷_}
-use mathlib.Core.Bool.{false, cond}
-use lib.ListN.{drop, length, take}
 use Rattle.std.proofs.shelf.Lists.{take-rest}
-use Rattle.spelling.specs.Texts.{all-of, cut}
 use Rattle.sheet.proofs.Steps.{piece-ends, piece-last, next-more, next-last}
 use Rattle.sheet.proofs.reader.Reader.piece.Needs as need
 
