@@ -17,8 +17,7 @@ use Rattle.std.specs.Reads.{value}
 use Rattle.std.specs.declared.result.Result.the-variants.{Ok, Err}
 use Rattle.job.specs.declared.fault.FieldFault.the-variants.{NoNumber, AboveRange}
 use Rattle.fixed.proofs.Pushing.{by-bool}
-use Rattle.spelling.specs.Fields.{number}
-use Rattle.spelling.proofs.Values.{plain-from}
+use Rattle.spelling.specs.Fields.{number, plain}
 
 -- n is v, or both are above the top
 abbrev pub Near : ℕ → ℕ → ℕ → Type 0
@@ -47,12 +46,20 @@ pub number-none : (top : ℕ) (t : List ℕ) (i : ℕ) → i < length t → (In 
 number-none top t i h n = rw (no-digit t i h n)
 
 -- at the end of the digits
-pub number-ends : (top n : ℕ) (t : List ℕ) (i : ℕ) → length t ≤ i → allDigits (take i t) ≡ true → Near top n (value 10 (take i t)) → 0 < length t → (getD t 0 0 ≡ 48 → length t ≡ 1) →
-    (top < n → Err (AboveRange top) ≡ number top t) × (n ≤ top → Ok n ≡ number top t)
-number-ends top n t i h d near some lead =
-    let e = take-all i t h in
-    let d′ = rw e at d in
-    let (b, w) = rw e at near in (
-      (λ k. let z : top < value 10 t = grind arith in rw (d′, plain-from t some lead, lt-leb (value 10 t) top z)),
-      (λ k. let z : n ≡ value 10 t = grind arith in rw (z, d′, plain-from t some lead, le-leb (value 10 t) top (omega arith))),
-    )
+module _ (top n : ℕ) (t : List ℕ) (i : ℕ) (h : length t ≤ i) (d : allDigits (take i t) ≡ true) where
+  pub number-not-plain : plain t ≡ false → Err NoNumber ≡ number top t
+  number-not-plain p = let d′ = rw (take-all i t h) at d in rw (d′, p)
+
+  pub number-above : Near top n (value 10 (take i t)) → plain t ≡ true → top < n → Err (AboveRange top) ≡ number top t
+  number-above near p k =
+      let d′ = rw (take-all i t h) at d in
+      let (b, w) = rw (take-all i t h) at near in
+      let z : top < value 10 t = grind arith in
+      rw (d′, p, lt-leb (value 10 t) top z)
+
+  pub number-within : Near top n (value 10 (take i t)) → plain t ≡ true → n ≤ top → Ok n ≡ number top t
+  number-within near p k =
+      let d′ = rw (take-all i t h) at d in
+      let (b, w) = rw (take-all i t h) at near in
+      let z : n ≡ value 10 t = grind arith in
+      rw (z, d′, p, le-leb (value 10 t) top (omega arith))

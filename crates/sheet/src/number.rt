@@ -1,5 +1,5 @@
 ghost use mathlib.Core.Path.{_≡_};
-ghost use Rattle.spelling.specs.Fields.{number as number-of};
+ghost use Rattle.spelling.specs.Fields.{number as number-of, plain};
 ghost use Rattle.sheet.specs.Fields.{Written};
 use job::fault::FieldFault;
 
@@ -9,6 +9,17 @@ pub fn number(text: &[u8], top: u32) -> Result<u32, FieldFault>
     ensures written { λ r. ⌜ Written top (now (text .entry)) r ⌝ }
 {
     parse(text, top)
+}
+
+// Whether a text has no leading zero: it is not empty, and begins with 0 only as a single digit.
+fn is_plain(text: &[u8]) -> bool
+    ensures { λ r. ⌜ r ≡ plain (now (text .entry)) ⌝ }
+{
+    match text {
+        [] => false,
+        [_] => true,
+        [first, ..] => *first != b'0',
+    }
 }
 
 fn parse(text: &[u8], top: u32) -> Result<u32, FieldFault>
@@ -28,10 +39,7 @@ fn parse(text: &[u8], top: u32) -> Result<u32, FieldFault>
             n = n * 10 + (*b - b'0') as u64;
         }
     }
-    if text.len() == 0 {
-        return Err(FieldFault::NoNumber);
-    }
-    if text.len() > 1 && text[0] == b'0' {
+    if !is_plain(text) {
         return Err(FieldFault::NoNumber);
     }
     if n > most {

@@ -9,7 +9,7 @@ use Rattle.listing.proofs.text.report_text.Needs as need
 pub loop-i-again : need.loop-i-again
 loop-i-again c =
     let line = c .in-Continue-line .ensures tt in
-    let p = pushed {was = string-bytes (c .loop-i .text)} (c .as-str .result .now) refl (c .in-Continue-push-str .was tt) (c .push-str .ensures .bytes) in
+    let p = pushed {was = string-bytes (c .loop-i .text)} {r = c .push-str .result} (c .as-str .result .now) refl (c .in-Continue-push-str .was tt) (c .push-str .ensures .bytes) in
     text-more (c .as-slice-clash-items .result .now) (c .loop-i .i) (string-bytes (c .loop-i .text)) (string-bytes (c .push-str .last .self)) (c .as-str .result .now) _
     (omega arith) p (c .as-str .ensures .value ∙ line) (c .loop-i .inv)
 

@@ -1,8 +1,9 @@
 use mathlib.Core.Logic.{inl, inr}
+use mathlib.Core.Path.{sym}
 use native.Mathlib.Omega.{arith}
-use Rattle.sheet.proofs.Numbers.{number-none, digits-next, near-next, number-ends}
+use Rattle.sheet.proofs.Numbers.{number-none, digits-next, near-next, number-not-plain, number-above, number-within}
 use Rattle.sheet.proofs.number.parse.Needs as need
-use Rattle.sheet.proofs.number.parse.Needs.{then-n-most, else-n-most, else-text-gt1·by·then-text-gt1·else-text-eq48, else-text-gt1·by·else-text-gt1}
+use Rattle.sheet.proofs.number.parse.Needs.{then-n-most, else-n-most}
 
 pub returns-then-b-lt48 : need.returns-then-b-lt48
 returns-then-b-lt48 c = number-none (c .args .top) (c .args .text .now) (c .loop-b .b-index) (c .loop-b-test .taken) (λ d. omega arith)
@@ -17,9 +18,13 @@ loop-b-again c = (
       (elim (c .if-n-most .came) [ then-n-most w ↦ inl (w .if-n-most .taken, w .n-is) | else-n-most w ↦ inr (w .if-n-most .left, w .n-is) ]),
 )
 
--- the first digit is no 0 unless it is the only one
+pub returns-then-not-is-plain : need.returns-then-not-is-plain
+returns-then-not-is-plain c = number-not-plain (c .args .top) (c .loop-b .n) (c .args .text .now) (c .loop-b .b-index) (c .loop-b-test .left) (c .loop-b .inv .0) (sym (c .if-not-is-plain .ensures tt))
+
 pub returns-then-n-most-2 : need.returns-then-n-most-2
-returns-then-n-most-2 c = number-ends (c .args .top) (c .loop-b .n) (c .args .text .now) (c .loop-b .b-index) (c .loop-b-test .left) (c .loop-b .inv .0) (c .loop-b .inv .1) (omega arith) (λ e. elim (c .else-text-gt1 .came) [ else-text-gt1·by·then-text-gt1·else-text-eq48 w ↦ absurd (w .if-text-eq48 .left e) | else-text-gt1·by·else-text-gt1 w ↦ omega (arith, w .if-text-gt1 .left) ]) .0 (c .if-n-most-2 .taken)
+returns-then-n-most-2 c =
+    number-above (c .args .top) (c .loop-b .n) (c .args .text .now) (c .loop-b .b-index) (c .loop-b-test .left) (c .loop-b .inv .0) (c .loop-b .inv .1) (sym (c .if-not-is-plain .ensures tt)) (c .if-n-most-2 .taken)
 
 pub returns : need.returns
-returns c = number-ends (c .args .top) (c .loop-b .n) (c .args .text .now) (c .loop-b .b-index) (c .loop-b-test .left) (c .loop-b .inv .0) (c .loop-b .inv .1) (omega arith) (λ e. elim (c .else-text-gt1 .came) [ else-text-gt1·by·then-text-gt1·else-text-eq48 w ↦ absurd (w .if-text-eq48 .left e) | else-text-gt1·by·else-text-gt1 w ↦ omega (arith, w .if-text-gt1 .left) ]) .1 (c .if-n-most-2 .left)
+returns c =
+    number-within (c .args .top) (c .loop-b .n) (c .args .text .now) (c .loop-b .b-index) (c .loop-b-test .left) (c .loop-b .inv .0) (c .loop-b .inv .1) (sym (c .if-not-is-plain .ensures tt)) (c .if-n-most-2 .left)
