@@ -25,6 +25,10 @@ Ends c t r = options.Cases r (cut c t ≡ last t) (λ j. (j < length t) × (cut 
 abbrev pub rest-of : Reader → List ℕ
 rest-of r = drop (r .place) (r .bytes .now)
 
+-- the bytes that it walks over, by which the place of what is left is known, are those that it was given
+abbrev pub Same-bytes : Reader → Reader → Type 0
+Same-bytes r r′ = r′ .bytes .now ≡ r .bytes .now
+
 -- the pieces between separators that are left
 abbrev pub pieces-of : ℕ → Reader → List (List ℕ)
 pieces-of c r = cond (r .done) [] (all-of (cut c (rest-of r)))

@@ -1,7 +1,7 @@
 ghost use mathlib.Core.Path.{_≡_};
 ghost use mathlib.Core.Bool.{true, false};
 ghost use Prim.Native.Nat.{_<_};
-ghost use Rattle.sheet.specs.Reading.{Ends, rest-of, pieces-of, Next-line, Next-piece};
+ghost use Rattle.sheet.specs.Reading.{Ends, rest-of, pieces-of, Next-line, Next-piece, Same-bytes};
 use crate::reader::Reader;
 
 // Where the first separator is.
@@ -19,6 +19,7 @@ fn find(bytes: &[u8], separator: u8) -> Option<usize>
 impl<'a> Reader<'a> {
     pub fn new(bytes: &'a [u8]) -> Reader<'a>
         ensures rest { λ r. ⌜ rest-of r ≡ now (bytes .entry) ⌝ }
+        ensures whole { λ r. ⌜ r .bytes .now ≡ now (bytes .entry) ⌝ }
         ensures ready { λ r. ⌜ r .done ≡ false ⌝ }
     {
         Reader {
@@ -37,7 +38,8 @@ impl<'a> Reader<'a> {
 
     // The next line that has its end.
     pub fn line(&mut self) -> Option<&'a [u8]>
-        ensures { λ r. ⌜ Next-line (rest-of (now (self .entry))) r (rest-of (now (self .exit))) ⌝ }
+        ensures next { λ r. ⌜ Next-line (rest-of (now (self .entry))) r (rest-of (now (self .exit))) ⌝ }
+        ensures kept { λ _. ⌜ Same-bytes (now (self .entry)) (now (self .exit)) ⌝ }
     {
         let bytes = self.bytes;
         let start = self.place;
@@ -56,7 +58,8 @@ impl<'a> Reader<'a> {
 
     // The next piece between separators, or what is left behind the last of them; then nothing more.
     pub fn piece(&mut self, separator: u8) -> Option<&'a [u8]>
-        ensures { λ r. ⌜ Next-piece (pieces-of separator (now (self .entry))) r (pieces-of separator (now (self .exit))) ⌝ }
+        ensures next { λ r. ⌜ Next-piece (pieces-of separator (now (self .entry))) r (pieces-of separator (now (self .exit))) ⌝ }
+        ensures kept { λ _. ⌜ Same-bytes (now (self .entry)) (now (self .exit)) ⌝ }
     {
         if self.done {
             return None;

@@ -19,4 +19,4 @@ loop-piece-holds c =
 pub loop-piece-again : need.loop-piece-again
 loop-piece-again c =
     onward-step (number 255) 8 (list-of (c .loop-piece .list)) (list-of (c .push .last .self)) (pieces-of 44 (c .loop-piece .reader)) (pieces-of 44 (c .piece .last .self)) (c .in-Some .piece .now) (c .in-Continue-point .point) (c .push .result)
-    (each (number 255) (all-of (cut 44 (c .args .text .now)))) (c .in-Some .ensures tt) (c .in-Continue-point .ensures tt .value) (c .push .ensures) (c .loop-piece .inv)
+    (each (number 255) (all-of (cut 44 (c .args .text .now)))) (c .in-Some .ensures tt .next) (c .in-Continue-point .ensures tt .value) (c .push .ensures) (c .loop-piece .inv)

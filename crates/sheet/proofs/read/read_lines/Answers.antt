@@ -13,5 +13,5 @@ returns c =
     let n = placed-ok 1 (c .names .result) (c .in-Continue-order .order) (c .in-Continue-order .ensures tt) in
     leaves-same _ _ (c .job-lines .result) _ _
     (sheet-is (c .args .sheet .now) (c .in-Some .line .now) (cut 10 (rest-of (c .line .last .self))) (list-of (c .in-Continue-order .order)) (c .as-slice .result .now) (jobs-of (c .args .jobs .now))
-    (c .if-sheet-eq0 .left) (ap (cut 10) (sym (c .new-reader .ensures .rest)) ∙ c .in-Some .ensures tt .0) (cases-at-ok _ _ _ n (c .names .ensures)) (c .as-slice .ensures .value) (c .pre .jobs))
+    (c .if-sheet-eq0 .left) (ap (cut 10) (sym (c .new-reader .ensures .rest)) ∙ c .in-Some .ensures tt .next .0) (cases-at-ok _ _ _ n (c .names .ensures)) (c .as-slice .ensures .value) (c .pre .jobs))
     (c .job-lines .ensures)

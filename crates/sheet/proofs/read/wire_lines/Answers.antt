@@ -8,4 +8,4 @@ use Rattle.sheet.proofs.read.wire_lines.Needs as need
 pub loop-line-again : need.loop-line-again
 loop-line-again c =
     wires-step (jobs-of (c .args .jobs .now)) (wires-of (c .loop-line .wires)) (wires-of (c .take-wire .last .wires)) (cut 10 (rest-of (c .loop-line .reader))) (cut 10 (rest-of (c .line .last .self))) (c .in-Some .line .now) _ (c .take-wire .result) _
-    (c .in-Some .ensures tt .0) (c .in-Continue-at .ensures tt) (c .take-wire .ensures) (c .loop-line .inv)
+    (c .in-Some .ensures tt .next .0) (c .in-Continue-at .ensures tt) (c .take-wire .ensures) (c .loop-line .inv)
