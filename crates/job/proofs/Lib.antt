@@ -1,3 +1,2 @@
 pub mod Admitting
-pub mod Counts
 pub mod Highest

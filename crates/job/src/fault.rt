@@ -20,14 +20,6 @@ pub enum JobFault {
     PointTwice,
 }
 
-// Why a wire is not taken into a table.
-#[derive(Clone, Copy, PartialEq, Eq, Debug)]
-pub enum WireFault {
-    TableFull,
-    ToItself,
-    FifthFromPoint,
-}
-
 // Why a preview has no answer.
 #[derive(Clone, Copy, PartialEq, Eq, Debug)]
 pub enum PreviewFault {

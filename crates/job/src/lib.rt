@@ -1,4 +1,4 @@
-// Jobs and wires: the checked records and tables, the unchecked shape of a job, and the preview of a job.
+// Jobs: the checked record and its table, the unchecked draft, refusals by their numbers, and the preview of a job.
 pub mod draft;
 pub mod fault;
 mod marks;
@@ -6,5 +6,3 @@ pub mod preview;
 pub mod record;
 pub mod refusal;
 pub mod table;
-pub mod wire;
-pub mod wiring;

@@ -9,10 +9,10 @@ use crate::report::Report;
 use fixed::list::FixedList;
 use job::preview::preview;
 use job::table::JobTable;
-use job::wiring::WireTable;
 use sheet::read::read;
 use std::alloc::AllocError;
 use std::alloc::Global;
+use wiring::table::WireTable;
 
 // The most bytes that a sheet may have.
 pub const MOST_BYTES: usize = 16384;

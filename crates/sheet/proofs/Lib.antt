@@ -1,6 +1,3 @@
-pub mod Steps
-pub mod Numbers
-pub mod Gathered
 pub mod Putting
 pub mod Lines
 pub mod Promised

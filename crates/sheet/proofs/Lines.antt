@@ -7,7 +7,7 @@ use native.Mathlib.Omega.{arith}
 use lib.ListN.{length}
 use Rattle.std.specs.declared.result.Result.{Result}
 use Rattle.std.specs.declared.result.Result.the-variants.{Ok, Err}
-use Rattle.job.specs.declared.wire.Wire.{Wire}
+use Rattle.wiring.specs.declared.wire.Wire.{Wire}
 use Rattle.job.specs.Plain.{Job}
 use Rattle.spelling.specs.declared.column.Column.{Column}
 use Rattle.spelling.specs.declared.fault.LineFault.{LineFault}
@@ -17,7 +17,7 @@ use Rattle.spelling.specs.declared.fault.SheetFault.the-variants.{AtLine}
 use Rattle.spelling.specs.Lines.{names, wire-line}
 use Rattle.spelling.specs.Sheet.{Tables, wire-names, read, read-lines, jobs-from, wires-part, wires-from}
 use Rattle.spelling.specs.Texts.{Pieces, more, cut, same}
-use Rattle.sheet.specs.Reading.{placed}
+use Rattle.fields.specs.Reading.{placed}
 use Rattle.sheet.specs.Tables.{Adds, Takes, Leaves}
 
 -- what was added is what was read

@@ -14,7 +14,7 @@ use Rattle.spelling.specs.Spelling.{Within, Spelled}
 use Rattle.spelling.proofs.Accepted.{accepted-exactly-spelled}
 use Rattle.spelling.proofs.First.{refused-at-first-fault, refused-without-bytes}
 use Rattle.spelling.proofs.Values.{number-exactly-written}
-use Rattle.sheet.specs.Fields.{Written}
+use Rattle.fields.specs.Fields.{Written}
 use Rattle.sheet.specs.Tables.{First-fault}
 
 pub accepted : (bytes : List ℕ) (t : Tables) → read bytes ≡ Ok t → Within t × Spelled bytes t
@@ -29,7 +29,3 @@ refused bytes e h = (
   (λ t w s. let k = accepted-exactly-spelled bytes t .1 (w, s) in absurd (let z : _≡_ {A = ℕ} 0 1 = cc in omega arith)),
   first-fault bytes e h,
 )
-
-pub written-exactly : (top : ℕ) (t : List ℕ) (r : Result ℕ FieldFault) → top < 2 ^ 32 → r ≡ number top t → Written top t r
-written-exactly top t (Ok n) h e = number-exactly-written top (omega arith) t n .0 (sym e)
-written-exactly top t (Err f) h e = λ n l w. let k = number-exactly-written top (omega arith) t n .1 (w, l) in absurd (let z : _≡_ {A = ℕ} 0 1 = cc in omega arith)

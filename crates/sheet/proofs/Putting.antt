@@ -12,13 +12,13 @@ use Rattle.std.proofs.shelf.Tests.{and-parts, eqb-true, leb-false, lt-ltb}
 use Rattle.std.specs.declared.result.Result.{Result}
 use Rattle.std.specs.declared.result.Result.the-variants.{Ok, Err}
 use Rattle.job.specs.declared.fault.FieldFault.{FieldFault}
-use Rattle.job.specs.declared.fault.WireFault.{WireFault}
-use Rattle.job.specs.declared.wire.Wire.{Wire}
+use Rattle.wiring.specs.declared.fault.WireFault.{WireFault}
+use Rattle.wiring.specs.declared.wire.Wire.{Wire}
 use Rattle.job.specs.Admitted.{no-record}
 use Rattle.fixed.specs.Lists.{distinct, every}
 use Rattle.job.specs.Plain.{Job}
 use Rattle.fixed.specs.Results.{and-then, or-else, given}
-use Rattle.job.specs.Wires.{wired}
+use Rattle.wiring.specs.Wires.{wired}
 use Rattle.fixed.proofs.Pushing.{by-bool}
 use Rattle.spelling.specs.declared.fault.LineFault.{LineFault}
 use Rattle.spelling.specs.declared.fault.LineFault.the-variants.{AtField, PointTwice}
@@ -28,8 +28,8 @@ use Rattle.spelling.specs.declared.column.Column.the-variants.{Proc, Arg, Urg, 
 use Rattle.spelling.specs.Fields.{letter, number, points}
 use Rattle.spelling.specs.Lines.{put, fields, split, job-line, wire-fields, wire-line}
 use Rattle.spelling.specs.Texts.{cut, all-of, empty}
-use Rattle.sheet.specs.Fields.{Reads}
-use Rattle.sheet.specs.Reading.{head-of, tail-of, placed}
+use Rattle.fields.specs.Fields.{Reads}
+use Rattle.fields.specs.Reading.{head-of, tail-of, placed}
 use Rattle.sheet.specs.Tables.{Adds}
 use Rattle.sheet.specs.Values.{Puts}
 

@@ -1,4 +1,2 @@
-pub mod Reading
-pub mod Fields
 pub mod Tables
 pub mod Values

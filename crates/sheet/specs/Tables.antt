@@ -5,7 +5,7 @@ use mathlib.Core.List.{List, [], _∷_, _++_}
 use Rattle.std.specs.Results.{Cases}
 use Rattle.std.specs.declared.result.Result.{Result}
 use Rattle.std.specs.declared.result.Result.the-variants.{Ok, Err}
-use Rattle.job.specs.declared.wire.Wire.{Wire}
+use Rattle.wiring.specs.declared.wire.Wire.{Wire}
 use Rattle.job.specs.Plain.{Job}
 use Rattle.spelling.specs.declared.fault.SheetFault.{SheetFault}
 use Rattle.spelling.specs.declared.fault.SheetFault.the-variants.{NoBytes, AtLine}

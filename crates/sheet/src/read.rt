@@ -2,23 +2,23 @@ ghost use mathlib.Core.Path.{_≡_};
 ghost use mathlib.Core.List.{[]};
 ghost use lib.ListN.{length};
 ghost use Rattle.job.specs.Records.{jobs-of};
-ghost use Rattle.job.specs.Wiring.{wires-of};
+ghost use Rattle.wiring.specs.Wiring.{wires-of};
 ghost use Rattle.spelling.specs.Sheet.{read as read-of, jobs-from, wires-part, wires-from};
 ghost use Rattle.spelling.specs.Texts.{cut};
-ghost use Rattle.sheet.specs.Reading.{rest-of};
+ghost use Rattle.fields.specs.Reading.{rest-of};
 ghost use Rattle.sheet.specs.Tables.{Leaves, Read, Spells, Faults};
 use crate::jobs::take_job;
-use crate::names::names;
-use crate::place::at;
-use crate::reader::Reader;
-use crate::shape::is_text;
 use crate::wires::take_wire;
+use fields::names::names;
+use fields::place::at;
+use fields::reader::Reader;
+use fields::shape::is_text;
 use job::table::JobTable;
-use job::wiring::WireTable;
 use spelling::column::Column;
 use spelling::fault::LineFault;
 use spelling::fault::SheetFault;
 use spelling::fault::SheetFromLine;
+use wiring::table::WireTable;
 
 // The wires, up to the end of the sheet.
 fn wire_lines(

@@ -1,17 +1,17 @@
 ghost use mathlib.Core.Path.{_≡_};
 ghost use lib.ListN.{length};
-ghost use Rattle.job.specs.Wiring.{wires-of};
+ghost use Rattle.wiring.specs.Wiring.{wires-of};
 ghost use Rattle.spelling.specs.Lines.{wire-fields, wire-line};
 ghost use Rattle.spelling.specs.Texts.{all-of, cut};
 ghost use Rattle.sheet.specs.Tables.{Takes};
-use crate::place::at;
-use crate::reader::Reader;
-use crate::shape::expect_fields;
-use job::wire::Wire;
-use job::wiring::WireTable;
+use fields::place::at;
+use fields::reader::Reader;
+use fields::shape::expect_fields;
 use spelling::fault::LineFault;
 use spelling::fault::LineFromField;
 use spelling::fault::LineFromWire;
+use wiring::table::WireTable;
+use wiring::wire::Wire;
 
 // The three fields of a wire line.
 fn three_fields(line: &[u8]) -> Result<Wire, LineFault>

@@ -12,11 +12,11 @@ use Rattle.std.proofs.shelf.Tests.{eqb-true}
 use Rattle.std.specs.declared.option.Option.the-variants.{Some}
 use Rattle.std.specs.declared.result.Result.{Result}
 use Rattle.std.specs.declared.result.Result.the-variants.{Ok, Err}
-use Rattle.job.specs.declared.wire.Wire.{Wire}
+use Rattle.wiring.specs.declared.wire.Wire.{Wire}
 use Rattle.job.specs.Plain.{Job}
-use Rattle.job.specs.Wires.{leaving}
+use Rattle.wiring.specs.Wires.{leaving}
 use Rattle.fixed.proofs.Pushing.{by-bool}
-use Rattle.job.proofs.Counts.{leaving-push}
+use Rattle.wiring.proofs.Counts.{leaving-push}
 use Rattle.spelling.specs.declared.column.Column.{Column}
 use Rattle.spelling.specs.declared.fault.LineFault.{LineFault}
 use Rattle.spelling.specs.declared.fault.LineFault.the-variants.{JobNames, WireNames, Unended, TooManyJobs, TooManyWires}

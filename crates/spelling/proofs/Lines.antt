@@ -12,12 +12,12 @@ use Rattle.std.proofs.shelf.Elements.{all-map}
 use Rattle.std.specs.shelf.Lists.{All}
 use Rattle.std.specs.Written.{decimal}
 use Rattle.std.specs.declared.result.Result.the-variants.{Ok}
-use Rattle.job.specs.declared.wire.Wire.{Wire}
+use Rattle.wiring.specs.declared.wire.Wire.{Wire}
 use Rattle.job.specs.Admitted.{no-record}
 use Rattle.fixed.specs.Lists.{every, has, distinct}
 use Rattle.job.specs.Plain.{Job}
 use Rattle.fixed.specs.Results.{or-else}
-use Rattle.job.specs.Wires.{leads-on, leaving, wired}
+use Rattle.wiring.specs.Wires.{leads-on, leaving, wired}
 use Rattle.fixed.proofs.Pushing.{by-bool}
 use Rattle.spelling.specs.declared.column.Column.{Column}
 use Rattle.spelling.specs.declared.column.Column.the-variants.{Proc, Arg, Urg, Points}

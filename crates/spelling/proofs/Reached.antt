@@ -11,9 +11,9 @@ use Rattle.std.proofs.shelf.Sums.{sumBy-append, sumBy-cons}
 use Rattle.std.proofs.shelf.Tests.{eq-eqb}
 use Rattle.std.specs.shelf.Lists.{All}
 use Rattle.std.specs.declared.result.Result.the-variants.{Ok}
-use Rattle.job.specs.declared.wire.Wire.{Wire}
+use Rattle.wiring.specs.declared.wire.Wire.{Wire}
 use Rattle.job.specs.Plain.{Job}
-use Rattle.job.specs.Wires.{leaving}
+use Rattle.wiring.specs.Wires.{leaving}
 use Rattle.spelling.specs.declared.column.Column.{Column}
 use Rattle.spelling.specs.Checks.{lines-then}
 use Rattle.spelling.specs.Lines.{order-of-four}

@@ -9,10 +9,10 @@ use Rattle.std.specs.Reads.{value}
 use Rattle.std.specs.declared.option.Option.{Option}
 use Rattle.std.specs.declared.option.Option.the-variants.{Some, None}
 use Rattle.job.specs.declared.fault.FieldFault.the-variants.{NoNumber, AboveRange, UnknownLetter, TooManyPoints}
-use Rattle.job.specs.declared.wire.Wire.{Wire}
+use Rattle.wiring.specs.declared.wire.Wire.{Wire}
 use Rattle.fixed.specs.Lists.{every, some, distinct}
 use Rattle.job.specs.Plain.{Job}
-use Rattle.job.specs.Wires.{leaving}
+use Rattle.wiring.specs.Wires.{leaving}
 use Rattle.spelling.specs.declared.column.Column.{Column}
 use Rattle.spelling.specs.declared.column.Column.the-variants.{Proc, Arg, Urg, Points}
 use Rattle.spelling.specs.declared.fault.LineFault.{LineFault}

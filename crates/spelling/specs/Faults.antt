@@ -1,6 +1,6 @@
 -- Faults: a wire's in its line, and the numbers of a sheet's.
-use Rattle.job.specs.declared.fault.WireFault.{WireFault}
-use Rattle.job.specs.declared.fault.WireFault.the-variants.{TableFull, ToItself, FifthFromPoint}
+use Rattle.wiring.specs.declared.fault.WireFault.{WireFault}
+use Rattle.wiring.specs.declared.fault.WireFault.the-variants.{TableFull, ToItself, FifthFromPoint}
 use Rattle.job.specs.declared.refusal.Refusal.{Refusal}
 use Rattle.job.specs.Refusals.{reason-of, line-refusal}
 use Rattle.spelling.specs.declared.fault.LineFault.{LineFault}

@@ -7,10 +7,10 @@ use mathlib.Core.Bool.{Bool, true, false}
 use lib.ListN.{length}
 use Rattle.std.specs.Written.{decimal}
 use Rattle.std.specs.shelf.Lists.{All}
-use Rattle.job.specs.declared.wire.Wire.{Wire}
+use Rattle.wiring.specs.declared.wire.Wire.{Wire}
 use Rattle.fixed.specs.Lists.{distinct}
 use Rattle.job.specs.Plain.{Job}
-use Rattle.job.specs.Wires.{leaving}
+use Rattle.wiring.specs.Wires.{leaving}
 use Rattle.spelling.specs.declared.column.Column.{Column}
 use Rattle.spelling.specs.declared.column.Column.the-variants.{Proc, Arg, Urg, Points}
 use Rattle.spelling.specs.Lines.{name, order-of-four}

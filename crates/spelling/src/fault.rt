@@ -5,7 +5,7 @@ ghost use Rattle.spelling.specs.declared.fault.SheetFault.the-variants.{AtLine
 use job::fault::FieldFault;
 use job::fault::FieldFaultDebug;
 use job::fault::FieldFaultPartialEq;
-use job::fault::WireFault;
+use wiring::fault::WireFault;
 
 // What is wrong with one line.
 #[derive(Clone, Copy, PartialEq, Eq, Debug)]

@@ -2,12 +2,12 @@
 use crate::support::held;
 use fixed::distinct::all_different;
 use job::table::JobTable;
-use job::wiring::WireTable;
 use sheet::read::read;
 use spelling::fault::SheetFaultDebug;
 use std::alloc::AllocError;
 use std::alloc::Global;
 use std::test::*;
+use wiring::table::WireTable;
 
 static LINES: [[&str; 4]; 4] = [
     ["proc", "arg", "urg", "points"],

@@ -9,12 +9,12 @@ use job::fault::PreviewFaultPartialEq;
 use job::preview::preview;
 use job::refusal::RefusalDisplay;
 use job::table::JobTable;
-use job::wiring::WireTable;
 use sheet::read::read;
 use spelling::fault::SheetFaultDebug;
 use std::alloc::AllocError;
 use std::alloc::Global;
 use std::test::*;
+use wiring::table::WireTable;
 
 // Job 1 has point 5, job 2 has 6, job 3 has 5 and 7, job 4 has none, job 5 has 255.
 const SHEET: &str = "proc arg urg points\nT 1 0 5\nS 2 0 6\nT 3 0 5,7\nT 4 0 -\nS 5 0 255\n";

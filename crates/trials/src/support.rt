@@ -1,6 +1,5 @@
 // What the trials share: building a sheet, and comparing what is said of it.
 use job::table::JobTable;
-use job::wiring::WireTable;
 use listing::check::check;
 use listing::fault::CheckFault;
 use listing::text::refusal_text;
@@ -10,6 +9,7 @@ use std::alloc::Global;
 use std::test::Fail;
 use std::test::Note;
 use std::test::check_eq;
+use wiring::table::WireTable;
 
 // The names of the columns: jobs begin at line 2 behind it.
 pub(crate) const JOBS: &str = "proc arg urg points\n";

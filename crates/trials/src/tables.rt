@@ -4,11 +4,11 @@ use crate::support::held;
 use crate::support::joined;
 use job::refusal::RefusalDisplay;
 use job::table::JobTable;
-use job::wiring::WireTable;
 use sheet::read::read;
 use spelling::fault::SheetFaultDebug;
 use std::alloc::Global;
 use std::test::*;
+use wiring::table::WireTable;
 
 // What the tables held before: a job, and as many wires from a point as there may be.
 const BEFORE: &str =

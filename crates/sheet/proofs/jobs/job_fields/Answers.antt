@@ -6,7 +6,7 @@ use Rattle.job.specs.Admitted.{no-record}
 use Rattle.spelling.specs.declared.column.Column.the-variants.{Proc}
 use Rattle.spelling.specs.Lines.{fields}
 use Rattle.spelling.specs.Texts.{all-of, cut}
-use Rattle.sheet.specs.Reading.{pieces-of, head-of}
+use Rattle.fields.specs.Reading.{pieces-of, head-of}
 use Rattle.sheet.specs.Values.{values-of}
 use Rattle.sheet.proofs.Putting.{put-ok, put-err, placed-ok, placed-err, fields-step, fields-refused, fields-all}
 use Rattle.sheet.proofs.jobs.job_fields.Needs as need

@@ -4,7 +4,7 @@ use lib.ListN.{length, drop}
 use Rattle.job.specs.Admitted.{no-record}
 use Rattle.spelling.specs.Lines.{fields}
 use Rattle.spelling.specs.Texts.{all-of, cut}
-use Rattle.sheet.specs.Reading.{pieces-of}
+use Rattle.fields.specs.Reading.{pieces-of}
 use Rattle.sheet.specs.Values.{values-of}
 use Rattle.sheet.proofs.jobs.job_fields.Given as given
 

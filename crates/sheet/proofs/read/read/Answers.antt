@@ -1,5 +1,5 @@
 use Rattle.job.specs.Records.{jobs-of}
-use Rattle.job.specs.Wiring.{wires-of}
+use Rattle.wiring.specs.Wiring.{wires-of}
 use Rattle.sheet.proofs.Promised.{accepted, refused}
 use Rattle.sheet.proofs.read.read.Needs as need
 

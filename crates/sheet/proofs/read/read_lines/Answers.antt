@@ -3,7 +3,7 @@ use Rattle.std.proofs.shelf.Results.{cases-at-ok}
 use Rattle.fixed.specs.Fixed.{list-of}
 use Rattle.job.specs.Records.{jobs-of}
 use Rattle.spelling.specs.Texts.{cut}
-use Rattle.sheet.specs.Reading.{rest-of}
+use Rattle.fields.specs.Reading.{rest-of}
 use Rattle.sheet.proofs.Lines.{leaves-same, sheet-is}
 use Rattle.sheet.proofs.Putting.{placed-ok}
 use Rattle.sheet.proofs.read.read_lines.Needs as need

@@ -1,7 +1,7 @@
 use Rattle.job.specs.Records.{jobs-of}
-use Rattle.job.specs.Wiring.{wires-of}
+use Rattle.wiring.specs.Wiring.{wires-of}
 use Rattle.spelling.specs.Texts.{cut}
-use Rattle.sheet.specs.Reading.{rest-of}
+use Rattle.fields.specs.Reading.{rest-of}
 use Rattle.sheet.proofs.Lines.{wires-step}
 use Rattle.sheet.proofs.read.wire_lines.Needs as need
 

@@ -1,7 +1,7 @@
 use Rattle.job.specs.Records.{jobs-of}
-use Rattle.job.specs.Wiring.{wires-of}
+use Rattle.wiring.specs.Wiring.{wires-of}
 use Rattle.spelling.specs.Texts.{cut}
-use Rattle.sheet.specs.Reading.{rest-of}
+use Rattle.fields.specs.Reading.{rest-of}
 use Rattle.sheet.proofs.Lines.{leaves-same, part-wrong, part-right}
 use Rattle.sheet.proofs.read.wire_part.Needs as need
 

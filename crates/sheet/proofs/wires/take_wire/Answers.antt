@@ -1,6 +1,6 @@
 use mathlib.Core.Path.{refl}
 use Rattle.std.proofs.shelf.Results.{err-from-errBy}
-use Rattle.job.specs.Wiring.{wires-of}
+use Rattle.wiring.specs.Wiring.{wires-of}
 use Rattle.sheet.proofs.Putting.{wire-refused, wire-faulty, wire-taken}
 use Rattle.sheet.proofs.wires.take_wire.Needs as need
 

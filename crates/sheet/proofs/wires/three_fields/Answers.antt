@@ -1,7 +1,7 @@
 use Rattle.std.proofs.shelf.Results.{err-from-errBy}
 use Rattle.spelling.specs.Texts.{all-of, cut}
-use Rattle.sheet.specs.Reading.{pieces-of}
-use Rattle.sheet.proofs.Steps.{fresh-pieces}
+use Rattle.fields.specs.Reading.{pieces-of}
+use Rattle.fields.proofs.Steps.{fresh-pieces}
 use Rattle.sheet.proofs.Putting.{third-refused, third-read}
 use Rattle.sheet.proofs.wires.three_fields.Needs as need
 

@@ -1,6 +1,6 @@
 use mathlib.Core.Path.{refl}
 use Rattle.std.proofs.shelf.Results.{err-from-errBy}
-use Rattle.sheet.specs.Reading.{pieces-of, head-of}
+use Rattle.fields.specs.Reading.{pieces-of, head-of}
 use Rattle.sheet.specs.Values.{values-of}
 use Rattle.sheet.proofs.Putting.{put-refused}
 use Rattle.sheet.proofs.values.Values.put.Needs as need
