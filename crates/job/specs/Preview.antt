@@ -62,5 +62,6 @@ Refused j (Candidate f) = admitted j ≡ Err f
 abbrev pub Answered : List Job → Job → Result (Option ℕ) PreviewFault → Type 0
 Answered js j r = results.Cases r (λ o. (admitted j ≡ Ok j) × Highest-clash js j o) (λ e. Refused j e)
 
+-- a list of marks of another length comes before all else
 abbrev pub Previewed : List Job → Job → List ℕ → Result (Option ℕ) PreviewFault → Type 0
 Previewed js j ms r = (length ms ≡ 256 → Answered js j r) × ((length ms ≡ 256 → ⊥) → r ≡ Err WrongLength)

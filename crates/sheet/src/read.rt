@@ -28,7 +28,7 @@ fn wire_lines(
 ) -> Result<(), SheetFault>
     ensures { λ r. ⌜ Leaves (wires-from (jobs-of (now (jobs .entry))) (wires-of (now (wires .entry))) (cut 10 (rest-of (now (reader .entry))))) r (jobs-of (now (jobs .entry))) (wires-of (now (wires .exit))) ⌝ }
 {
-    // behind the names, the jobs, an empty line and three names
+    // above the wires stand the names, the jobs, an empty line and the wires' names; lines count from 1
     let above = 4 + jobs.len();
     while let Some(line) = reader.line() {
         at(above + wires.len(), take_wire(line, wires))?;
@@ -107,7 +107,8 @@ fn read_lines(sheet: &[u8], jobs: &mut JobTable, wires: &mut WireTable) -> Resul
     job_lines(&mut reader, order.as_slice(), jobs, wires)
 }
 
-// Reads a sheet into the tables, whatever they held; a refused sheet leaves both empty.
+// Reads a sheet into the tables, whatever they held. It is accepted exactly if it spells tables within the limits;
+// a refused one leaves both tables empty, and the answer is its first fault.
 pub fn read(sheet: &[u8], jobs: &mut JobTable, wires: &mut WireTable) -> Result<(), SheetFault>
     ensures answer { λ r. ⌜ Read (now (sheet .entry)) r (jobs-of (now (jobs .exit))) (wires-of (now (wires .exit))) ⌝ }
     ensures spelled { λ r. ⌜ Spells (now (sheet .entry)) r (jobs-of (now (jobs .exit))) (wires-of (now (wires .exit))) ⌝ }

@@ -13,5 +13,6 @@ use Rattle.wiring.specs.Wires.{wired}
 abbrev pub wires-of : WireTable → List Wire
 wires-of t = list-of (t .wires)
 
+-- a wire more, behind those that were there, or why not
 abbrev pub Strung : List Wire → Wire → Result (Unit {0}) WireFault → List Wire → Type 0
 Strung was w r is = Cases r (λ _. (wired was w ≡ Ok w) × (is ≡ was ++ w ∷ [])) (λ e. (wired was w ≡ Err e) × (is ≡ was))
