@@ -2,7 +2,7 @@
 use Prim.Native.Nat.{ℕ, _+_, _<_}
 use mathlib.Core.Path.{_≡_}
 use mathlib.Core.List.{List, [], _∷_}
-use mathlib.Core.Bool.{cond}
+use mathlib.Core.Bool.{true, cond}
 use denote.Ref.{RefT}
 use lib.ListN.{length, take, drop}
 use Rattle.std.specs.Options as options
@@ -25,9 +25,13 @@ Ends c t r = options.Cases r (cut c t ≡ last t) (λ j. (j < length t) × (cut 
 abbrev pub rest-of : Reader → List ℕ
 rest-of r = drop (r .place) (r .bytes .now)
 
--- the bytes that it walks over, by which the place of what is left is known, are those that it was given
-abbrev pub Same-bytes : Reader → Reader → Type 0
-Same-bytes r r′ = r′ .bytes .now ≡ r .bytes .now
+-- a line was handed on: the reader walks over the same bytes, by which the place of what is left is known, and its pieces go on
+abbrev pub Passes : Reader → Reader → Type 0
+Passes r r′ = (r′ .bytes .now ≡ r .bytes .now) × (r′ .done ≡ r .done)
+
+-- a piece was handed on: the reader walks over the same bytes, and the last piece leaves it where it is
+abbrev pub Walks : Reader → Reader → Type 0
+Walks r r′ = (r′ .bytes .now ≡ r .bytes .now) × (r′ .done ≡ true → rest-of r′ ≡ rest-of r)
 
 -- the pieces between separators that are left
 abbrev pub pieces-of : ℕ → Reader → List (List ℕ)

@@ -1,6 +1,6 @@
 ghost use mathlib.Core.Path.{_≡_};
 ghost use Rattle.spelling.specs.Fields.{known, letter as letter-of, number as number-of};
-ghost use Rattle.fields.specs.Reading.{pieces-of, head-of, tail-of, Same-bytes};
+ghost use Rattle.fields.specs.Reading.{pieces-of, head-of, tail-of, Walks};
 ghost use Rattle.fields.specs.Fields.{Reads};
 use crate::number::number;
 use crate::reader::Reader;
@@ -41,7 +41,7 @@ impl<'a> Reader<'a> {
     fn field_text(&mut self) -> &'a [u8]
         ensures text { λ r. ⌜ now r ≡ head-of (pieces-of 32 (now (self .entry))) ⌝ }
         ensures left { λ _. ⌜ pieces-of 32 (now (self .exit)) ≡ tail-of (pieces-of 32 (now (self .entry))) ⌝ }
-        ensures kept { λ _. ⌜ Same-bytes (now (self .entry)) (now (self .exit)) ⌝ }
+        ensures kept { λ _. ⌜ Walks (now (self .entry)) (now (self .exit)) ⌝ }
     {
         match self.piece(b' ') {
             Some(text) => text,
@@ -53,7 +53,7 @@ impl<'a> Reader<'a> {
     pub fn field(&mut self, column: Column) -> Result<Field<'a>, FieldFault>
         ensures reads { λ r. ⌜ Reads column (head-of (pieces-of 32 (now (self .entry)))) (now (self .entry) .place) r ⌝ }
         ensures left { λ _. ⌜ pieces-of 32 (now (self .exit)) ≡ tail-of (pieces-of 32 (now (self .entry))) ⌝ }
-        ensures kept { λ _. ⌜ Same-bytes (now (self .entry)) (now (self .exit)) ⌝ }
+        ensures kept { λ _. ⌜ Walks (now (self .entry)) (now (self .exit)) ⌝ }
     {
         let offset = self.place();
         let text = self.field_text();
@@ -69,7 +69,7 @@ impl<'a> Reader<'a> {
     pub fn number(&mut self, top: u32) -> Result<u32, FieldFault>
         ensures reads { λ r. ⌜ r ≡ number-of top (head-of (pieces-of 32 (now (self .entry)))) ⌝ }
         ensures left { λ _. ⌜ pieces-of 32 (now (self .exit)) ≡ tail-of (pieces-of 32 (now (self .entry))) ⌝ }
-        ensures kept { λ _. ⌜ Same-bytes (now (self .entry)) (now (self .exit)) ⌝ }
+        ensures kept { λ _. ⌜ Walks (now (self .entry)) (now (self .exit)) ⌝ }
     {
         number(self.field_text(), top)
     }

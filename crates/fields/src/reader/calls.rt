@@ -1,7 +1,7 @@
 ghost use mathlib.Core.Path.{_≡_};
 ghost use mathlib.Core.Bool.{true, false};
 ghost use Prim.Native.Nat.{_<_};
-ghost use Rattle.fields.specs.Reading.{Ends, rest-of, pieces-of, Next-line, Next-piece, Same-bytes};
+ghost use Rattle.fields.specs.Reading.{Ends, rest-of, pieces-of, Next-line, Next-piece, Passes, Walks};
 use crate::reader::Reader;
 
 // Where the first separator is.
@@ -39,7 +39,7 @@ impl<'a> Reader<'a> {
     // The next line that has its end.
     pub fn line(&mut self) -> Option<&'a [u8]>
         ensures next { λ r. ⌜ Next-line (rest-of (now (self .entry))) r (rest-of (now (self .exit))) ⌝ }
-        ensures kept { λ _. ⌜ Same-bytes (now (self .entry)) (now (self .exit)) ⌝ }
+        ensures kept { λ _. ⌜ Passes (now (self .entry)) (now (self .exit)) ⌝ }
     {
         let bytes = self.bytes;
         let start = self.place;
@@ -59,7 +59,7 @@ impl<'a> Reader<'a> {
     // The next piece between separators, or what is left behind the last of them; then nothing more.
     pub fn piece(&mut self, separator: u8) -> Option<&'a [u8]>
         ensures next { λ r. ⌜ Next-piece (pieces-of separator (now (self .entry))) r (pieces-of separator (now (self .exit))) ⌝ }
-        ensures kept { λ _. ⌜ Same-bytes (now (self .entry)) (now (self .exit)) ⌝ }
+        ensures kept { λ _. ⌜ Walks (now (self .entry)) (now (self .exit)) ⌝ }
     {
         if self.done {
             return None;

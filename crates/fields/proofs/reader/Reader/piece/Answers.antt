@@ -1,4 +1,5 @@
-use mathlib.Core.Path.{refl}
+use mathlib.Core.Path.{refl, sym, _∙_}
+use mathlib.Core.Bool.{false≢true}
 use Rattle.std.proofs.shelf.Lists.{take-rest}
 use Rattle.fields.proofs.Steps.{piece-ends, piece-last, next-more, next-last}
 use Rattle.fields.proofs.reader.Reader.piece.Needs as need
@@ -9,7 +10,7 @@ returns-in-Some c =
       next =
           next-more (c .args .self .now .done) (c .if-self .left)
           (piece-ends (c .args .separator) (c .args .self .now .bytes .now) (c .args .self .now .place) (c .in-Some .end) (c .in-Some .ensures tt) .0);
-      kept = refl;
+      kept = (refl, λ e. absurd (false≢true (sym (c .if-self .left) ∙ e)));
     }
 
 pub returns-in-None : need.returns-in-None
@@ -18,5 +19,5 @@ returns-in-None c =
       next =
           next-last (c .args .self .now .done) (c .if-self .left) (take-rest (c .args .self .now .bytes .now) (c .args .self .now .place))
           (piece-last (c .args .separator) (c .args .self .now .bytes .now) (c .args .self .now .place) (c .in-None .ensures tt));
-      kept = refl;
+      kept = (refl, λ _. refl);
     }
