@@ -1,4 +1,6 @@
-ghost use Rattle.std.specs.Prelude.{◌≡◌, ◌≤◌, length};
+ghost use Rattle.std.specs.Prelude.{◌≡◌, ◌≤◌, ⊤, length};
+
+use std::alloc::AllocError;
 
 mod calls;
 
@@ -8,6 +10,16 @@ pub struct FixedList<T: Copy, const N: usize> {
     len: usize,
     ghost whole: { length items ≡ N },
     ghost within: { len ≤ N },
+}
+
+impl<T: Copy, const N: usize> Clone for FixedList<T, N> {
+    ghost is_clone = { λ list copy. copy ≡ list };
+
+    ghost is_infallible = { λ _. ⊤ };
+
+    fn clone(&self) -> Result<FixedList<T, N>, AllocError> {
+        Ok(*self)
+    }
 }
 
 impl<T: Copy, const N: usize> Copy for FixedList<T, N> {}

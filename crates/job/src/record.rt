@@ -1,8 +1,9 @@
-ghost use Rattle.std.specs.Prelude.{◌≡◌, ◌≤◌, true};
+ghost use Rattle.std.specs.Prelude.{◌≡◌, ◌≤◌, ⊤, true};
 ghost use Rattle.fixed.specs.Lists.{distinct};
 ghost use Rattle.fixed.specs.Fixed.{list_of};
 
 use fixed::list::FixedList;
+use std::alloc::AllocError;
 
 mod calls;
 
@@ -16,6 +17,16 @@ pub struct JobRecord {
     ghost to_z: { letter ≤ 90 },
     ghost urgent: { urgency ≤ 9 },
     ghost once: { distinct (list_of points) ≡ true },
+}
+
+impl Clone for JobRecord {
+    ghost is_clone = { λ job copy. copy ≡ job };
+
+    ghost is_infallible = { λ _. ⊤ };
+
+    fn clone(&self) -> Result<JobRecord, AllocError> {
+        Ok(*self)
+    }
 }
 
 impl Copy for JobRecord {}

@@ -1,4 +1,5 @@
 // Ranking: orders of values, the precedences that give jobs their keys, and the count of those below.
+#![tactic(auto)]
 pub mod count;
 pub mod laws;
 pub mod order;

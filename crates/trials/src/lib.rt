@@ -1,4 +1,5 @@
 // Examples of what is accepted and what is refused, with answers worked out by hand.
+#![tactic(auto)]
 #[cfg(test)]
 mod clashes;
 #[cfg(test)]
