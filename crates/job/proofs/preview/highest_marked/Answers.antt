@@ -15,5 +15,5 @@ loop-number-preserved c =
     let l = c.loop-number.invariant.0 in (
       omega arith,
       unmarked_step c.args.marks.now c.args.jobs.now c.loop-number.number c.index-jobs-number.result c.points.result.now
-          (omega arith) l c.index-jobs-number.is c.points.ensures.value c.if-any-marked.ensures c.loop-number.invariant.1,
+          (omega arith) l c.index-jobs-number.is c.points.ensures.value c.if-any_marked.ensures c.loop-number.invariant.1,
     )

@@ -8,8 +8,8 @@ returns c =
     record {
       answer = (
         (λ _.
-            answered c.mark.new.marks c.records.result.now (jobs_of c.args.table.now) (draft_of c.args.draft.now) (job_of c.in-ok-candidate.candidate) c.points.result.now c.highest-marked.result
-            c.in-ok-candidate.ensures c.points.ensures.value c.mark.ensures.marked c.records.ensures.value c.highest-marked.ensures),
+            answered c.mark.new.marks c.records.result.now (jobs_of c.args.table.now) (draft_of c.args.draft.now) (job_of c.in_ok-candidate.candidate) c.points.result.now c.highest_marked.result
+            c.in_ok-candidate.ensures c.points.ensures.value c.mark.ensures.marked c.records.ensures.value c.highest_marked.ensures),
         λ n. absurd (n c.if-marks-ne256.false),
       );
       blanked = search rules;

@@ -10,5 +10,5 @@ returns-then-not-all-different c =
 
 pub returns : goal.returns
 returns c =
-    assembled_whole c.args.letter c.args.argument c.args.urgency (list_of c.args.points) c.in-ok-letter.letter c.in-ok-urgency.urgency
-    c.in-ok-letter.ensures c.in-ok-urgency.ensures (rw c.as-slice.ensures.value at (sym c.if-not-all-different.ensures))
+    assembled_whole c.args.letter c.args.argument c.args.urgency (list_of c.args.points) c.in_ok-letter.letter c.in_ok-urgency.urgency
+    c.in_ok-letter.ensures c.in_ok-urgency.ensures (rw c.as-slice.ensures.value at (sym c.if-not-all_different.ensures))

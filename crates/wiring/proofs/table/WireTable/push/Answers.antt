@@ -11,11 +11,11 @@ pub returns-then-is-full : goal.returns-then-is-full
 returns-then-is-full c = (wired_full (list_of c.args.self.now.wires) c.args.wire c.args.self.now.leaving (sym c.if-is-full.ensures), refl)
 
 pub returns-then-wire : goal.returns-then-wire
-returns-then-wire c = (wired_itself (list_of c.args.self.now.wires) c.args.wire c.args.self.now.leaving (sym c.if-is-full.ensures) c.if-wire.true, refl)
+returns-then-wire c = (wired_itself (list_of c.args.self.now.wires) c.args.wire c.args.self.now.leaving (sym c.if-is_full.ensures) c.if-wire.true, refl)
 
 pub returns-then-count-ge4 : goal.returns-then-count-ge4
 returns-then-count-ge4 c =
-    (wired_fifth (list_of c.args.self.now.wires) c.args.wire c.args.self.now.leaving (sym c.if-is-full.ensures) c.if-wire.false c.args.self.now.counted (search rules) c.if-count-ge4.true, refl)
+    (wired_fifth (list_of c.args.self.now.wires) c.args.wire c.args.self.now.leaving (sym c.if-is_full.ensures) c.if-wire.false c.args.self.now.counted (search rules) c.if-count-ge4.true, refl)
 
 pub invariant-of-self : goal.invariant-of-self
 invariant-of-self c =
@@ -31,6 +31,6 @@ pub returns : goal.returns
 returns c =
     let ws = list_of c.args.self.now.wires in
     let w = c.args.wire in (
-      wired_well ws w c.args.self.now.leaving (sym c.if-is-full.ensures) c.if-wire.false c.args.self.now.counted (search rules) c.if-count-ge4.false,
-      pushed_room 256 (λ y. y) ws w c.push.result (list_of c.push.new.self) (leb-false _ _ (sym c.if-is-full.ensures)) c.push.ensures,
+      wired_well ws w c.args.self.now.leaving (sym c.if-is_full.ensures) c.if-wire.false c.args.self.now.counted (search rules) c.if-count-ge4.false,
+      pushed_room 256 (λ y. y) ws w c.push.result (list_of c.push.new.self) (leb-false _ _ (sym c.if-is_full.ensures)) c.push.ensures,
     )
