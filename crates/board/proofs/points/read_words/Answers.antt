@@ -6,11 +6,11 @@ use Rattle.fixed.proofs.Scans.{every_stays}
 use Rattle.board.proofs.Steps.{reading_fails, reading_holds, reading_more}
 use Rattle.board.proofs.points.read_words.Goals as goal
 
-pub returns-in-err-word : goal.returns-in-err-word
-returns-in-err-word g c =
+pub returns-in_err-word : goal.returns-in_err-word
+returns-in_err-word g c =
     let p = err_from_is_err_and c.from-residual.result c.from-residual.ensures.1 in
     let ws = g.B.Board.words c.args.board.now in
-    let (above, fault) = c.in-err-word.ensures in
+    let (above, fault) = c.in_err-word.ensures in
     let e = c.from.ensures in
     rw (p.1, p.2)
     (reading_fails ws c.args.points.now c.loop-p.p-index c.if-points-gt8.false c.loop-p.invariant.1 c.loop-p-test.true (le-ltb _ (length ws) (rw (← e) above))
@@ -21,9 +21,9 @@ loop-p-preserved g c =
     let ws = g.B.Board.words c.args.board.now in
     let ps = c.args.points.now in
     let i = c.loop-p.p-index in
-    let (below, value) = c.in-ok-word.ensures in
+    let (below, value) = c.in_ok-word.ensures in
     let e = c.from.ensures in (
-      reading_more ws ps i c.from.result c.in-ok-word.word (list_of c.loop-p.words) (list_of c.push.new.self) c.push.result c.if-points-gt8.false c.loop-p-test.true e value c.loop-p.invariant.0 c.push.ensures,
+      reading_more ws ps i c.from.result c.in_ok-word.word (list_of c.loop-p.words) (list_of c.push.new.self) c.push.result c.if-points-gt8.false c.loop-p-test.true e value c.loop-p.invariant.0 c.push.ensures,
       c.loop-p.invariant.1 ∙ every_stays (λ p. ltb p (length ws)) ps i 0 c.loop-p-test.true (lt-ltb _ (length ws) (rw (← e) below)),
     )
 

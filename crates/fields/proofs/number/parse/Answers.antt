@@ -16,13 +16,13 @@ loop-b-preserved c = (
       (elim c.if-n-most.branch [ then-n-most w ↦ inl (w.if-n-most.true, w.n-is) | else-n-most w ↦ inr (w.if-n-most.false, w.n-is) ]),
 )
 
-pub returns-then-not-is-plain : goal.returns-then-not-is-plain
-returns-then-not-is-plain c = number_not_plain c.args.top c.loop-b.n c.args.text.now c.loop-b.b-index c.loop-b-test.false c.loop-b.invariant.0 (sym c.if-not-is-plain.ensures)
+pub returns-then-not-is_plain : goal.returns-then-not-is_plain
+returns-then-not-is_plain c = number_not_plain c.args.top c.loop-b.n c.args.text.now c.loop-b.b-index c.loop-b-test.false c.loop-b.invariant.0 (sym c.if-not-is_plain.ensures)
 
 pub returns-then-n-most-2 : goal.returns-then-n-most-2
 returns-then-n-most-2 c =
-    number_above c.args.top c.loop-b.n c.args.text.now c.loop-b.b-index c.loop-b-test.false c.loop-b.invariant.0 c.loop-b.invariant.1 (sym c.if-not-is-plain.ensures) c.if-n-most-2.true
+    number_above c.args.top c.loop-b.n c.args.text.now c.loop-b.b-index c.loop-b-test.false c.loop-b.invariant.0 c.loop-b.invariant.1 (sym c.if-not-is_plain.ensures) c.if-n-most-2.true
 
 pub returns : goal.returns
 returns c =
-    number_within c.args.top c.loop-b.n c.args.text.now c.loop-b.b-index c.loop-b-test.false c.loop-b.invariant.0 c.loop-b.invariant.1 (sym c.if-not-is-plain.ensures) c.if-n-most-2.false
+    number_within c.args.top c.loop-b.n c.args.text.now c.loop-b.b-index c.loop-b-test.false c.loop-b.invariant.0 c.loop-b.invariant.1 (sym c.if-not-is_plain.ensures) c.if-n-most-2.false

@@ -16,5 +16,5 @@ loop-piece-init c =
 
 pub loop-piece-preserved : goal.loop-piece-preserved
 loop-piece-preserved c =
-    onward_step (number 255) 8 (list_of c.loop-piece.list) (list_of c.push.new.self) (pieces_of 44 c.loop-piece.reader) (pieces_of 44 c.piece.new.self) c.in-Some.piece.now c.in-ok-point.point c.push.result
-    (each (number 255) (all_of (cut 44 c.args.text.now))) c.in-Some.ensures.next c.in-ok-point.ensures.value c.push.ensures c.loop-piece.invariant
+    onward_step (number 255) 8 (list_of c.loop-piece.list) (list_of c.push.new.self) (pieces_of 44 c.loop-piece.reader) (pieces_of 44 c.piece.new.self) c.in-Some.piece.now c.in_ok-point.point c.push.result
+    (each (number 255) (all_of (cut 44 c.args.text.now))) c.in-Some.ensures.next c.in_ok-point.ensures.value c.push.ensures c.loop-piece.invariant

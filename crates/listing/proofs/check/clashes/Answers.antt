@@ -24,7 +24,7 @@ loop-job-preserved c =
       ap length (c.in-Ok.ensures.blanked.0 long) ∙ length-replicate {A = ℕ} 256 0,
       earlier_more js (jobs_of c.loop-job.earlier) (jobs_of c.push-in-loop-job.new.self) i (job_of c.job-item.result) (omega arith) before next here,
       rows_more js i (list_of c.loop-job.rows) (list_of c.push.new.self) c.in-Ok.clash rows row
-          (clash_here js (jobs_of c.loop-job.earlier) i (draft_of c.in-ok-draft.draft) c.in-Ok.clash before (c.in-ok-draft.ensures.same ∙ sym here) answer),
+          (clash_here js (jobs_of c.loop-job.earlier) i (draft_of c.in_ok-draft.draft) c.in-Ok.clash before (c.in_ok-draft.ensures.same ∙ sym here) answer),
     )
 
 pub returns : goal.returns

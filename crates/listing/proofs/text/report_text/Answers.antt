@@ -6,12 +6,12 @@ use Rattle.listing.proofs.text.report_text.Goals as goal
 
 pub loop-i-preserved : goal.loop-i-preserved
 loop-i-preserved c =
-    let line = c.in-ok-line.ensures in
-    let p = pushed {was = string_bytes c.loop-i.text} {r = c.push-str.result} c.as-str.result.now refl c.in-ok-push-str.was c.push-str.ensures.bytes in
-    text_more c.as-slice-clash-items.result.now c.loop-i.i (string_bytes c.loop-i.text) (string_bytes c.push-str.new.self) c.as-str.result.now _
-    (omega arith) p (c.as-str.ensures.value ∙ line) c.loop-i.invariant
+    let line = c.in_ok-line.ensures in
+    let p = pushed {was = string_bytes c.loop-i.text} {r = c.push_str.result} c.as_str.result.now refl c.in_ok-push_str.was c.push_str.ensures.bytes in
+    text_more c.as_slice-clash-items.result.now c.loop-i.i (string_bytes c.loop-i.text) (string_bytes c.push_str.new.self) c.as_str.result.now _
+    (omega arith) p (c.as_str.ensures.value ∙ line) c.loop-i.invariant
 
 pub returns : goal.returns
 returns c =
-    text_all c.as-slice-clash-items.result.now c.loop-i.i (string_bytes c.loop-i.text) _ (omega arith) c.loop-i.invariant
-    ∙ ap report_text c.as-slice-clash-items.ensures.value
+    text_all c.as_slice-clash-items.result.now c.loop-i.i (string_bytes c.loop-i.text) _ (omega arith) c.loop-i.invariant
+    ∙ ap report_text c.as_slice-clash-items.ensures.value

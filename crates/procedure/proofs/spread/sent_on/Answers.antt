@@ -13,9 +13,9 @@ loop-wire-preserved c =
     let rest = sent_on c.args.b c.args.urgency (drop (c.loop-wire.wire-index + 1) c.args.wires.now) in
     elim c.if-wire-b.branch [
       | then-wire-b+in-ok-along+in-ok-push w ↦
-          let f = w.in-ok-along.field-0 in
-          let p = pushed (f ∷ []) refl w.in-ok-push.was w.push.ensures.items in
-          let s = w.in-ok-along.ensures in
+          let f = w.in_ok-along.field-0 in
+          let p = pushed (f ∷ []) refl w.in_ok-push.was w.push.ensures.items in
+          let s = w.in_ok-along.ensures in
           ap (λ (l : List Job). l ++ rest)
           (ap (λ v. map draft_of (vec_items v)) w.drafts-is ∙ ap (map draft_of) p ∙ map_push draft_of _ f
           ∙ ap (λ (x : Job). map draft_of (vec_items c.loop-wire.drafts) ++ x ∷ []) s)

@@ -6,7 +6,7 @@ use Rattle.procedure.proofs.tally.tallied.Goals as goal
 pub loop-word-preserved : goal.loop-word-preserved
 loop-word-preserved c =
     let e = map_more (λ w. min (w + c.args.argument) 4294967295) c.args.words.now c.loop-word.word-index 0 c.loop-word-test.true in
-    let p = pushed (c.saturating-add.result ∷ []) c.loop-word.invariant c.in-ok-push.was c.push.ensures.items in
+    let p = pushed (c.saturating_add.result ∷ []) c.loop-word.invariant c.in_ok-push.was c.push.ensures.items in
     cc
 
 pub returns : goal.returns

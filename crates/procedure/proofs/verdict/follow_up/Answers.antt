@@ -6,8 +6,8 @@ use Rattle.procedure.proofs.verdict.follow_up.Goals as goal
 pub returns-in-default : goal.returns-in-default
 returns-in-default c = spoils_refused c.args.size (draft_of c.args.draft.now) _ c.in-default.ensures
 
-pub returns-then-all-on-board : goal.returns-then-all-on-board
-returns-then-all-on-board c = spoils_admitted c.args.size (draft_of c.args.draft.now) (job_of c.in-Ok.job) c.points.result.now true c.in-Ok.ensures c.points.ensures.value c.if-all-on-board.ensures
+pub returns-then-all_on_board : goal.returns-then-all_on_board
+returns-then-all_on_board c = spoils_admitted c.args.size (draft_of c.args.draft.now) (job_of c.in-Ok.job) c.points.result.now true c.in-Ok.ensures c.points.ensures.value c.if-all_on_board.ensures
 
-pub returns-else-all-on-board : goal.returns-else-all-on-board
-returns-else-all-on-board c = (spoils_admitted c.args.size (draft_of c.args.draft.now) (job_of c.in-Ok.job) c.points.result.now false c.in-Ok.ensures c.points.ensures.value c.if-all-on-board.ensures).0
+pub returns-else-all_on_board : goal.returns-else-all_on_board
+returns-else-all_on_board c = (spoils_admitted c.args.size (draft_of c.args.draft.now) (job_of c.in-Ok.job) c.points.result.now false c.in-Ok.ensures c.points.ensures.value c.if-all_on_board.ensures).0

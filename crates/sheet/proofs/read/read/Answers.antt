@@ -4,7 +4,7 @@ use Rattle.sheet.proofs.Promised.{accepted, refused}
 use Rattle.sheet.proofs.read.read.Goals as goal
 
 pub returns-in-Ok : goal.returns-in-Ok
-returns-in-Ok c = let e = c.in-Ok.ensures in record { answer = e; spelled = accepted c.args.sheet.now (record { jobs = jobs_of c.read-lines.new.jobs; wires = wires_of c.read-lines.new.wires }) e; first = tt }
+returns-in-Ok c = let e = c.in-Ok.ensures in record { answer = e; spelled = accepted c.args.sheet.now (record { jobs = jobs_of c.read_lines.new.jobs; wires = wires_of c.read_lines.new.wires }) e; first = tt }
 
 pub returns-in-Err : goal.returns-in-Err
 returns-in-Err c =

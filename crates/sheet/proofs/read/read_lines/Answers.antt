@@ -10,8 +10,8 @@ use Rattle.sheet.proofs.read.read_lines.Goals as goal
 
 pub returns : goal.returns
 returns c =
-    let n = placed_ok 1 c.names.result c.in-ok-order.order c.in-ok-order.ensures in
-    leaves_same _ _ c.job-lines.result _ _
-    (sheet_is c.args.sheet.now c.in-Some.line.now (cut 10 (rest_of c.line.new.self)) (list_of c.in-ok-order.order) c.as-slice.result.now (jobs_of c.args.jobs.now)
-    c.if-sheet-eq0.false (ap (cut 10) (sym c.new-reader.ensures.rest) ∙ c.in-Some.ensures.next.0) (MatchResult-at_ok _ _ _ n c.names.ensures) c.as-slice.ensures.value c.requires.jobs)
-    c.job-lines.ensures
+    let n = placed_ok 1 c.names.result c.in_ok-order.order c.in_ok-order.ensures in
+    leaves_same _ _ c.job_lines.result _ _
+    (sheet_is c.args.sheet.now c.in-Some.line.now (cut 10 (rest_of c.line.new.self)) (list_of c.in_ok-order.order) c.as_slice.result.now (jobs_of c.args.jobs.now)
+    c.if-sheet-eq0.false (ap (cut 10) (sym c.new-reader.ensures.rest) ∙ c.in-Some.ensures.next.0) (MatchResult-at_ok _ _ _ n c.names.ensures) c.as_slice.ensures.value c.requires.jobs)
+    c.job_lines.ensures

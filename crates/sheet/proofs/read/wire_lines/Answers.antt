@@ -7,5 +7,5 @@ use Rattle.sheet.proofs.read.wire_lines.Goals as goal
 
 pub loop-line-preserved : goal.loop-line-preserved
 loop-line-preserved c =
-    wires_step (jobs_of c.args.jobs.now) (wires_of c.loop-line.wires) (wires_of c.take-wire.new.wires) (cut 10 (rest_of c.loop-line.reader)) (cut 10 (rest_of c.line.new.self)) c.in-Some.line.now _ c.take-wire.result _
-    c.in-Some.ensures.next.0 c.in-ok-at.ensures c.take-wire.ensures c.loop-line.invariant
+    wires_step (jobs_of c.args.jobs.now) (wires_of c.loop-line.wires) (wires_of c.take_wire.new.wires) (cut 10 (rest_of c.loop-line.reader)) (cut 10 (rest_of c.line.new.self)) c.in-Some.line.now _ c.take_wire.result _
+    c.in-Some.ensures.next.0 c.in_ok-at.ensures c.take_wire.ensures c.loop-line.invariant

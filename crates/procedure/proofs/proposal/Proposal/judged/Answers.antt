@@ -23,18 +23,18 @@ loop-draft-init c = (ap (map job_of) c.new-jobs.ensures, refl)
 pub returns-in-default : goal.returns-in-default
 returns-in-default c =
     let s = spoils c.args.size in
-    let f = caught draft_of s c.as-slice-draft-items.result.now c.loop-draft.draft-index c.draft-item.result c.loop-draft-test.true c.draft-item.is c.in-default.ensures in
-    or_right _ _ (ap (λ (l : List JobDraft). some s (map draft_of l)) (sym c.as-slice-draft-items.ensures.value) ∙ (c.loop-draft.invariant.1 ∙ f))
+    let f = caught draft_of s c.as_slice-draft-items.result.now c.loop-draft.draft-index c.draft-item.result c.loop-draft-test.true c.draft-item.is c.in-default.ensures in
+    or_right _ _ (ap (λ (l : List JobDraft). some s (map draft_of l)) (sym c.as_slice-draft-items.ensures.value) ∙ (c.loop-draft.invariant.1 ∙ f))
 
 pub loop-draft-preserved : goal.loop-draft-preserved
 loop-draft-preserved c =
-    let items = c.as-slice-draft-items.result.now in
+    let items = c.as_slice-draft-items.result.now in
     let i = c.loop-draft.draft-index in
     let x = c.draft-item.result in
     let t = c.loop-draft-test.true in
     let e = c.in-Some.ensures in
     let k = c.args.self.now.follow_ups.ok.0 in
-    let n = c.as-slice-draft-items.ensures.len in
+    let n = c.as_slice-draft-items.ensures.len in
     let few : length items ≤ 4 = omega arith in
     let p = pushed_room 4 (λ y. y) (list_of c.loop-draft.jobs) c.in-Some.job c.push.result (list_of c.push.new.self)
     (room job_of draft_of items i 4 (list_of c.loop-draft.jobs) c.loop-draft.invariant.0 t few) c.push.ensures in (
@@ -44,10 +44,10 @@ loop-draft-preserved c =
 
 pub returns : goal.returns
 returns c =
-    let items = c.as-slice-draft-items.result.now in
+    let items = c.as_slice-draft-items.result.now in
     let i = c.loop-draft.draft-index in
     let s = spoils c.args.size in
-    let v = c.as-slice-draft-items.ensures.value in
+    let v = c.as_slice-draft-items.ensures.value in
     let n = length-map (vec_items c.args.self.now.follow_ups) draft_of in
     let k = c.args.self.now.follow_ups.ok.0 in
     let few : length (map draft_of (vec_items c.args.self.now.follow_ups)) ≤ 4 = omega arith in (

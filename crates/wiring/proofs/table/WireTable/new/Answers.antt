@@ -2,5 +2,5 @@ use Rattle.std.proofs.Common.{refl}
 use Rattle.wiring.proofs.table.WireTable.new.Goals as goal
 use Rattle.wiring.proofs.Counts.{none_counted, none_onward}
 
-pub invariant-of-result : goal.invariant-of-result
-invariant-of-result c = (none_counted _ c.new.ensures, (none_onward _ c.new.ensures, (refl, tt)))
+pub invariant_of-result : goal.invariant_of-result
+invariant_of-result c = record { counted = none_counted _ c.new.ensures; onward = none_onward _ c.new.ensures; four = refl }
