@@ -1,5 +1,6 @@
 // Ranking: orders of values, the precedences that give jobs their keys, and the count of those below.
 #![tactic(auto)]
+
 pub mod count;
 pub mod laws;
 pub mod order;

@@ -1,5 +1,6 @@
 // The commissioning sheet as a format: columns, faults and their numbers, and the laws of reading.
 #![tactic(auto)]
+
 pub mod column;
 pub mod explain;
 pub mod fault;
