@@ -21,7 +21,7 @@ pub fn all_on_board(points: &[u8], size: usize) -> bool
 
 // The words at up to 8 points, in their order.
 pub fn read_words<B: Board>(board: &B, points: &[u8]) -> Result<FixedList<u32, 8>, BoardFault>
-    ensures { Means list_of (reading (words board.now) points.now) result }
+    ensures { Means list_of (reading (B.words board.now) points.now) result }
 {
     if points.len() > 8 {
         return Err(BoardFault::WrongLength);
@@ -36,9 +36,9 @@ pub fn read_words<B: Board>(board: &B, points: &[u8]) -> Result<FixedList<u32, 8
 
 // Puts the k-th of the new words at the k-th point; all points are on the board.
 fn put_each<B: Board>(board: &mut B, points: &[u8], new: &[u32])
-    requires on { on_board (length (words board.old)) points.now ≡ true }
+    requires on { on_board (length (B.words board.old)) points.now ≡ true }
     requires even { length new.now ≡ length points.now }
-    ensures { words board.new ≡ put_at (words board.old) points.now new.now }
+    ensures { B.words board.new ≡ put_at (B.words board.old) points.now new.now }
 {
     for (i, p) in points.iter().enumerate() {
         let _ = board.put(usize::from(*p), new[i]);
@@ -47,7 +47,7 @@ fn put_each<B: Board>(board: &mut B, points: &[u8], new: &[u32])
 
 // Puts a word at each point. Everything is looked at before the first word is put, so a refusal leaves the board as it was.
 pub fn put_words<B: Board>(board: &mut B, points: &[u8], new: &[u32]) -> Result<(), BoardFault>
-    ensures { PutAll (words board.old) points.now new.now result (words board.new) }
+    ensures { PutAll (B.words board.old) points.now new.now result (B.words board.new) }
 {
     if new.len() != points.len() {
         return Err(BoardFault::WrongLength);

@@ -16,7 +16,7 @@ pub struct Shift<B> {
 impl<B: Board> Shift<B> {
     // A shift of at least one point, all of them on the board below; another one hands the board back.
     pub fn new(below: B, start: usize, size: usize) -> Result<Shift<B>, (B, BoardFault)>
-        ensures { Shifted words below start size result }
+        ensures { Shifted B.words below start size result }
     {
         let whole = below.size();
         if size == 0 || start > whole || size > whole - start {
@@ -39,7 +39,7 @@ impl<B: Board> Shift<B> {
 
     // The point below, of a point of the shift.
     fn reach(&self, point: usize) -> Result<usize, BoardFault>
-        ensures { Reached (words self.now.below) self.now.start self.now.size point result }
+        ensures { Reached (B.words self.now.below) self.now.start self.now.size point result }
     {
         let whole = self.below.size();
         if point < self.size && self.start < whole && point < whole - self.start {
@@ -63,8 +63,8 @@ impl<B: Board> Board for Shift<B> {
 
     // Of the board below one word is set too, and no other, outside the shift's range as well.
     fn put(&mut self, point: usize, word: u32) -> Result<(), BoardFault>
-        ensures here { Put (shifted self.old.start self.old.size (words self.old.below)) point word result (shifted self.new.start self.new.size (words self.new.below)) }
-        ensures below { KeptBelow (words self.old.below) self.old.start point word result (words self.new.below) }
+        ensures here { Put (shifted self.old.start self.old.size (B.words self.old.below)) point word result (shifted self.new.start self.new.size (B.words self.new.below)) }
+        ensures below { KeptBelow (B.words self.old.below) self.old.start point word result (B.words self.new.below) }
         ensures range { (self.new.start ≡ self.old.start) × (self.new.size ≡ self.old.size) }
     {
         let reached = self.reach(point)?;

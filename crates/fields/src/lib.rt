@@ -1,5 +1,6 @@
 // Lines and fields of a sheet: the reader, and what a field or a line of names says.
 #![tactic(auto)]
+
 pub mod field;
 pub mod names;
 pub mod number;

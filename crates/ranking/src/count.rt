@@ -5,7 +5,7 @@ use crate::order::Order;
 
 // How many elements are below a value.
 pub fn count_below<E: Order>(all: &[E], one: &E) -> usize
-    ensures value { result ≡ count_below below all.now one.now }
+    ensures value { result ≡ count_below E.below all.now one.now }
     ensures bound { result ≤ length all.now }
 {
     let mut count: usize = 0;

@@ -9,16 +9,16 @@ use job::record::JobRecord;
 
 // Of elements of a list the larger has the larger count; those that are the same have equal counts, and only those.
 pub fn larger_count_larger<E: Order>() -> u8
-    ensures same { SameEqualCounts below same }
-    ensures different { DifferentCounts below same }
-    ensures larger { LargerCountLarger below }
+    ensures same { SameEqualCounts E.below E.same }
+    ensures different { DifferentCounts E.below E.same }
+    ensures larger { LargerCountLarger E.below }
 {
     0
 }
 
 // The counts of n elements, no two of them the same, are the numbers from 0 to n - 1, each once.
 pub fn counts_each_once<E: Order>() -> u8
-    ensures { DifferentEachOnce below same }
+    ensures { DifferentEachOnce E.below E.same }
 {
     0
 }
@@ -26,7 +26,7 @@ pub fn counts_each_once<E: Order>() -> u8
 // The number tells two standings apart, so the counts of the standings of n jobs are the numbers from 0 to n - 1, each once.
 pub fn standings_each_once<P: Precedence>(precedence: &P) -> u8
     ensures apart { NumberTellsApart P.Key.Order.same }
-    ensures once { GenerationEachOnce P.Key.Order.below P.Key.Order.same (keyed precedence.now) }
+    ensures once { GenerationEachOnce P.Key.Order.below P.Key.Order.same (P.keyed precedence.now) }
 {
     0
 }

@@ -48,7 +48,7 @@ impl Precedence for UrgencyOrder {
 
 // The standing of a job under a precedence.
 pub fn standing<P: Precedence>(precedence: &P, job: &JobRecord, number: u8) -> Standing<P::Key>
-    ensures { result ≡ standing_of (keyed precedence.now) (job_of job.now) number }
+    ensures { result ≡ standing_of (P.keyed precedence.now) (job_of job.now) number }
 {
     Standing {
         key: precedence.key(job, number),

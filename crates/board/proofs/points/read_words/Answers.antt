@@ -8,7 +8,7 @@ use Rattle.board.proofs.points.read_words.Goals as goal
 
 pub returns-in_err-word : goal.returns-in_err-word
 returns-in_err-word g c =
-    let p = err_from_is_err_and c.from-residual.result c.from-residual.ensures.1 in
+    let p = err_from_is_err_and c.from_residual.result c.from_residual.ensures.1 in
     let ws = g.B.Board.words c.args.board.now in
     let (above, fault) = c.in_err-word.ensures in
     let e = c.from.ensures in

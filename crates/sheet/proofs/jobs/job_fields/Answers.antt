@@ -11,7 +11,7 @@ use Rattle.sheet.proofs.jobs.job_fields.Goals as goal
 
 pub returns-in_err-at : goal.returns-in_err-at
 returns-in_err-at c =
-    let p = err_from_is_err_and c.from-residual.result c.from-residual.ensures.1 in
+    let p = err_from_is_err_and c.from_residual.result c.from_residual.ensures.1 in
     let q = placed_err (c.loop-i.i + 1) c.put.result c.in_err-at.field-0.0 c.in_err-at.ensures in
     let ts = pieces_of 32 c.loop-i.reader in
     let h = put_err (get_or c.args.order.now c.loop-i.i Proc) (head_of ts) (values_of c.loop-i.values) (values_of c.put.new.self) c.put.result c.in_err-at.field-0.0.1 q.0 c.put.ensures.puts in

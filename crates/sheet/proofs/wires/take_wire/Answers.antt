@@ -6,7 +6,7 @@ use Rattle.sheet.proofs.wires.take_wire.Goals as goal
 
 pub returns-in_err-wire : goal.returns-in_err-wire
 returns-in_err-wire c =
-    let p = err_from_is_err_and c.from-residual-in_err-wire.result c.from-residual-in_err-wire.ensures.1 in
+    let p = err_from_is_err_and c.from_residual-in_err-wire.result c.from_residual-in_err-wire.ensures.1 in
     rw (p.1, p.2) (
       wire_refused (wires_of c.args.wires.now) c.args.line.now c.if-is_full.ensures c.in_ok-expect_fields.ensures c.in_err-wire.field-0.0 c.in_err-wire.ensures,
       refl,
@@ -14,7 +14,7 @@ returns-in_err-wire c =
 
 pub returns-in_err-push : goal.returns-in_err-push
 returns-in_err-push c =
-    let p = err_from_is_err_and c.from-residual-in_err-push.result c.from-residual-in_err-push.ensures.1 in
+    let p = err_from_is_err_and c.from_residual-in_err-push.result c.from_residual-in_err-push.ensures.1 in
     let e = c.in_err-push.ensures in
     rw (p.1, p.2) (
       wire_faulty (wires_of c.args.wires.now) c.args.line.now c.if-is_full.ensures c.in_ok-expect_fields.ensures c.in_ok-wire.wire c.in_err-push.field-0.0 c.in_ok-wire.ensures e.0,
