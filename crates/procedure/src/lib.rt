@@ -1,5 +1,6 @@
 // Procedures: the rule that each means, what it proposes for a job, and when a proposal is spoilt.
 #![tactic(auto)]
+
 pub mod laws;
 pub mod paired;
 pub mod procedure;
