@@ -1,5 +1,6 @@
 // Checks the stored sheets and prints what is said of each, to be compared with the known answers.
 #![tactic(auto)]
+
 use anyhow::anyhow;
 use listing::check::check;
 use listing::text::{refusal_text, report_text};

@@ -1,5 +1,6 @@
 // Checks a commissioning sheet: the file that is named, or standard input.
 #![tactic(auto)]
+
 use anyhow::anyhow;
 use listing::check::{MOST_BYTES, check};
 use listing::fault::CheckFault;

@@ -10,12 +10,11 @@ use job::draft::JobDraft;
 use job::record::JobRecord;
 
 // What becomes of a proposal: its follow-ups as job records in their order, or nothing.
+#[derive(Clone, Copy)]
 pub enum Verdict {
     Good(FixedList<JobRecord, 4>),
     Spoilt,
 }
-
-impl Copy for Verdict {}
 
 // A follow-up as a job record on a board of that size, unless it spoils its proposal.
 fn follow_up(draft: &JobDraft, size: usize) -> Option<JobRecord>
