@@ -1,5 +1,6 @@
 // Examples of what is accepted and what is refused, with answers worked out by hand.
 #![tactic(auto)]
+
 #[cfg(test)]
 mod clashes;
 #[cfg(test)]

@@ -6,13 +6,13 @@ use Rattle.job.specs.Records.{draft_of}
 use Rattle.procedure.specs.Spread.{sent_on}
 use Rattle.procedure.proofs.Sending.{sends, passes_by}
 use Rattle.procedure.proofs.spread.sent_on.Goals as goal
-use Rattle.procedure.proofs.spread.sent_on.Goals.{then-wire-b+in-ok-along+in-ok-push, else-wire-b}
+use Rattle.procedure.proofs.spread.sent_on.Goals.{then-wire-b+in_ok-along+in_ok-push, else-wire-b}
 
 pub loop-wire-preserved : goal.loop-wire-preserved
 loop-wire-preserved c =
     let rest = sent_on c.args.b c.args.urgency (drop (c.loop-wire.wire-index + 1) c.args.wires.now) in
     elim c.if-wire-b.branch [
-      | then-wire-b+in-ok-along+in-ok-push w ↦
+      | then-wire-b+in_ok-along+in_ok-push w ↦
           let f = w.in_ok-along.field-0 in
           let p = pushed (f ∷ []) refl w.in_ok-push.was w.push.ensures.items in
           let s = w.in_ok-along.ensures in

@@ -20,10 +20,10 @@ returns-then-len-gt4 c =
 pub loop-draft-init : goal.loop-draft-init
 loop-draft-init c = (ap (map job_of) c.new-jobs.ensures, refl)
 
-pub returns-in-default : goal.returns-in-default
-returns-in-default c =
+pub returns-in_default : goal.returns-in_default
+returns-in_default c =
     let s = spoils c.args.size in
-    let f = caught draft_of s c.as_slice-draft-items.result.now c.loop-draft.draft-index c.draft-item.result c.loop-draft-test.true c.draft-item.is c.in-default.ensures in
+    let f = caught draft_of s c.as_slice-draft-items.result.now c.loop-draft.draft-index c.draft-item.result c.loop-draft-test.true c.draft-item.is c.in_default.ensures in
     or_right _ _ (ap (λ (l : List JobDraft). some s (map draft_of l)) (sym c.as_slice-draft-items.ensures.value) ∙ (c.loop-draft.invariant.1 ∙ f))
 
 pub loop-draft-preserved : goal.loop-draft-preserved
