@@ -1,5 +1,6 @@
 // Examples of the parts that a run is fitted with, with answers worked out by hand.
 #![tactic(auto)]
+
 #[cfg(test)]
 mod boards;
 #[cfg(test)]
