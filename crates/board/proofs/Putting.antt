@@ -1,9 +1,9 @@
 -- Words put at a point, and at a list of points: where they stand then, and what stays.
-use Rattle.std.proofs.Common.{◌≡◌, ℕ, ◌<◌, Bool, true, false, not, eqb, ltb, ◌≢◌, List, [], ◌∷◌, map, length, get_or, set, Ok, Err, sym, refl, ap, ◌∙◌, arith, length-set}
+use Rattle.std.proofs.Common.{◌≡◌, ℕ, ◌<◌, false, not, eqb, ltb, ◌≢◌, List, [], ◌∷◌, length, get_or, set, Ok, Err, sym, refl, ap, ◌∙◌, arith, length-set}
 use Rattle.std.proofs.lemmas.List.{get_or-set_same, get_or-set_other}
 use Rattle.std.proofs.lemmas.Bool.{and_parts, or_parts, not-true, ltb-true, eqb-false}
 use Rattle.fixed.specs.Lists.{has, distinct}
-use Rattle.board.specs.Points.{on_board, words_at, put_at}
+use Rattle.board.specs.Points.{on_board, put_at}
 use Rattle.board.specs.Laws.{PutKeepsLimits, ReadAsPut, OthersKept}
 
 pub put_keeps_limits : PutKeepsLimits

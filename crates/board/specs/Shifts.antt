@@ -1,5 +1,5 @@
 -- Shifts: part of the words of a board, as a board.
-use Rattle.std.specs.Prelude.{◌≡◌, ℕ, ◌+◌, ◌<◌, ◌≤◌, List, length, take, drop, set, Result, MatchResult, slice_index, slice_set}
+use Rattle.std.specs.Prelude.{◌≡◌, ℕ, ◌+◌, ◌<◌, ◌≤◌, List, length, take, drop, Result, MatchResult, slice_index, slice_set}
 use Rattle.board.specs.declared.fault.BoardFault.{BoardFault}
 use Rattle.board.specs.declared.fault.BoardFault.TheVariants.{NotOnBoard, InvalidShift}
 use Rattle.board.specs.declared.shift.Shift.{Shift}

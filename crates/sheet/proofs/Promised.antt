@@ -1,15 +1,11 @@
 -- The promises of reading, at one sheet.
-use Rattle.std.proofs.Common.{◌≡◌, ℕ, ◌^◌, ◌<◌, List, Ok, Err, Result, sym, arith}
+use Rattle.std.proofs.Common.{◌≡◌, ℕ, List, Ok, Err, arith}
 use Rattle.spelling.specs.declared.fault.SheetFault.{SheetFault}
 use Rattle.spelling.specs.declared.fault.SheetFault.TheVariants.{NoBytes, AtLine}
-use Rattle.job.specs.declared.fault.FieldFault.{FieldFault}
-use Rattle.spelling.specs.Fields.{number}
 use Rattle.spelling.specs.Sheet.{Tables, read}
 use Rattle.spelling.specs.Spelling.{Within, Spelled}
 use Rattle.spelling.proofs.Accepted.{accepted_exactly_spelled}
 use Rattle.spelling.proofs.First.{refused_at_first_fault, refused_without_bytes}
-use Rattle.spelling.proofs.Values.{number_exactly_written}
-use Rattle.fields.specs.Fields.{Written}
 use Rattle.sheet.specs.Tables.{FirstFault}
 
 pub accepted : (bytes : List ℕ) (t : Tables) → read bytes ≡ Ok t → Within t × Spelled bytes t

@@ -17,7 +17,7 @@ use Rattle.spelling.specs.declared.fault.LineFault.TheVariants.{AtField, PointTw
 use Rattle.spelling.specs.Faults.{wire_fault}
 use Rattle.spelling.specs.declared.column.Column.{Column}
 use Rattle.spelling.specs.declared.column.Column.TheVariants.{Proc, Arg, Urg, Points}
-use Rattle.spelling.specs.Fields.{letter, number, points}
+use Rattle.spelling.specs.Fields.{letter, number}
 use Rattle.spelling.specs.Lines.{put, fields, split, job_line, wire_fields, wire_line}
 use Rattle.spelling.specs.Texts.{cut, all_of, empty}
 use Rattle.fields.specs.Fields.{Reads}

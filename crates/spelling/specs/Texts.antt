@@ -1,5 +1,5 @@
 -- Bytes between separators: lines, fields and points alike.
-use Rattle.std.specs.Prelude.{ℕ, Bool, true, false, cond, not, ◌&&◌, List, [], ◌∷◌, Ok, Result, ◌==◌}
+use Rattle.std.specs.Prelude.{ℕ, Bool, true, false, cond, ◌&&◌, List, [], ◌∷◌, Ok, Result, ◌==◌}
 use Rattle.fixed.specs.Results.{and_then}
 
 -- some pieces that a separator ends, and what follows the last separator

@@ -1,4 +1,4 @@
-use Rattle.std.proofs.Common.{ltb, sym, ◌∙◌, arith}
+use Rattle.std.proofs.Common.{ltb, sym, ◌∙◌}
 use Rattle.std.proofs.lemmas.List.{at_drop_all}
 use Rattle.std.proofs.lemmas.Bool.{lt-ltb, le-ltb}
 use Rattle.fixed.proofs.Scans.{every_stays, every_fails}
