@@ -1,7 +1,7 @@
 -- Good proposals, from tests to facts of each follow-up.
 use Rattle.std.proofs.Common.{◌≡◌, ℕ, ◌<◌, Bool, true, false, not, ltb, ◌↔◌, List, [], ◌∷◌, length, is_ok, Ok, Err, Result, sym, refl, ap, ◌∙◌}
 use Rattle.std.proofs.lemmas.Bool.{false≢true, ltb-true, ltb-false, lt-ltb, le-ltb, and_parts, and_from, or_parts, or_from, not-false}
-use Rattle.std.specs.List.{AllByRecursion as All}
+use Rattle.std.specs.List.{AllByRecursion}
 use Rattle.fixed.specs.Lists.{some, every}
 use Rattle.board.specs.Points.{on_board}
 use Rattle.job.proofs.Admitting.{admitted_same}
@@ -13,14 +13,14 @@ use Rattle.procedure.specs.Proposals.{spoils}
 use Rattle.procedure.proofs.Spoiling.{spoils_test}
 
 module _ {A : Type 0} (f : A → Bool) (P : A → Type 0) where
-  every_all : ((x : A) → (f x ≡ true) ↔ P x) → (xs : List A) → (every f xs ≡ true) ↔ All P xs
+  every_all : ((x : A) → (f x ≡ true) ↔ P x) → (xs : List A) → (every f xs ≡ true) ↔ AllByRecursion P xs
   every_all e [] = (λ h. tt, λ h. refl)
   every_all e (x ∷ xs) =
       let (to, back) = e x in
       let (tos, backs) = every_all e xs in
       (λ h. let (p, q) = and_parts (f x) (every f xs) h in (to p, tos q), λ h. and_from (f x) (every f xs) (back h.0) (backs h.1))
 
-  none_all : ((x : A) → (f x ≡ false) ↔ P x) → (xs : List A) → (some f xs ≡ false) ↔ All P xs
+  none_all : ((x : A) → (f x ≡ false) ↔ P x) → (xs : List A) → (some f xs ≡ false) ↔ AllByRecursion P xs
   none_all e [] = (λ h. tt, λ h. refl)
   none_all e (x ∷ xs) =
       let (to, back) = e x in
@@ -31,7 +31,7 @@ admitted_whole : (j : Job) (r : Result Job JobFault) → admitted j ≡ r → is
 admitted_whole j (Ok k) e h = e ∙ ap Ok (admitted_same j k e)
 admitted_whole j (Err f) e h = absurd (false≢true h)
 
-below : (size : ℕ) (ps : List ℕ) → (on_board size ps ≡ true) ↔ All (λ (p : ℕ). p < size) ps
+below : (size : ℕ) (ps : List ℕ) → (on_board size ps ≡ true) ↔ AllByRecursion (λ (p : ℕ). p < size) ps
 below size ps = every_all (λ (p : ℕ). ltb p size) (λ (p : ℕ). p < size) (λ p. (ltb-true p size, lt-ltb p size)) ps
 
 good_one : (size : ℕ) (j : Job) → (spoils size j ≡ false) ↔ OnBoard size j

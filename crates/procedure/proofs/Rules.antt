@@ -3,7 +3,7 @@ use Rattle.std.proofs.Common.{◌≡◌, ℕ, zero, suc, ◌+◌, ◌≤◌, tru
 use Rattle.std.proofs.lemmas.List.{length-map, get_or-set_same}
 use Rattle.std.proofs.lemmas.List.Sums.{length-filter}
 use Rattle.std.proofs.lemmas.Bool.{both_ways, cond_both, and_parts, and_from, or_cases, or_left, or_right, not-true, not_from_false, eqb-true, eqb-false, eq-eqb, ne_eqb, leb-true, le-leb, ltb-true, lt-ltb}
-use Rattle.std.specs.List.{AllByRecursion as All}
+use Rattle.std.specs.List.{AllByRecursion}
 use Rattle.wiring.specs.Wires.{leaving}
 use Rattle.wiring.specs.declared.wire.Wire.{Wire}
 use Rattle.job.specs.Plain.{Job}
@@ -13,22 +13,22 @@ use Rattle.procedure.specs.Spread.{reaches, along, sent_on, for_two}
 use Rattle.procedure.specs.Tally.{tallied}
 
 -- ## A tally
-raised : (a : ℕ) (ws : List ℕ) → All (λ w. w ≤ 4294967295) ws → (k : ℕ) → get_or ws k 0 ≤ get_or (tallied a ws) k 0
+raised : (a : ℕ) (ws : List ℕ) → AllByRecursion (λ w. w ≤ 4294967295) ws → (k : ℕ) → get_or ws k 0 ≤ get_or (tallied a ws) k 0
 raised a [] h k = omega arith
 raised a (w ∷ ws) (h, hs) zero = omega arith
 raised a (w ∷ ws) (h, hs) (suc k) = raised a ws hs k
 
-capped : (a : ℕ) (ws : List ℕ) → All (λ w. w ≤ 4294967295) (tallied a ws)
+capped : (a : ℕ) (ws : List ℕ) → AllByRecursion (λ w. w ≤ 4294967295) (tallied a ws)
 capped a [] = tt
 capped a (w ∷ ws) = (omega arith, capped a ws)
 
 pub tally_never_lowers : TallyNeverLowers
 tally_never_lowers j ws h = cond_both (eqb j.letter 84) (record { words = tallied j.argument ws; followups = [] }) (unchanged ws)
-    (λ (p : Proposed). ((k : ℕ) → get_or ws k 0 ≤ get_or p.words k 0) × All (λ w. w ≤ 4294967295) p.words × (p.followups ≡ []))
+    (λ (p : Proposed). ((k : ℕ) → get_or ws k 0 ≤ get_or p.words k 0) × AllByRecursion (λ w. w ≤ 4294967295) p.words × (p.followups ≡ []))
     (λ e. (raised j.argument ws h, capped j.argument ws, refl)) (λ e. (λ k. omega arith, h, refl))
 
 -- ## A spread
-all_along : (b u : ℕ) (ws : List Wire) → All (LeadsFrom b u) (map (along b u) ws)
+all_along : (b u : ℕ) (ws : List Wire) → AllByRecursion (LeadsFrom b u) (map (along b u) ws)
 all_along b u [] = tt
 all_along b u (w ∷ ws) = (record { letter = refl; urgent = refl; end = w.to; points = refl }, all_along b u ws)
 
@@ -38,7 +38,7 @@ spread_sends_on wires j ws =
     let kept = filter (λ (w : Wire). eqb w.from b) wires in
     cond_both (for_two j ws && reaches (get_or ws 0 0) (get_or ws 1 0) (get_or ws 0 0 + j.argument))
     (record { words = set ws 1 (get_or ws 0 0 + j.argument); followups = sent_on b j.urgency wires }) (unchanged ws)
-    (λ (p : Proposed). (p.words ≡ ws → ⊥) → (length p.followups ≡ leaving b wires) × All (LeadsFrom b j.urgency) p.followups)
+    (λ (p : Proposed). (p.words ≡ ws → ⊥) → (length p.followups ≡ leaving b wires) × AllByRecursion (LeadsFrom b j.urgency) p.followups)
     (λ e n. (length-map kept (along b j.urgency) ∙ length-filter (λ (w : Wire). eqb w.from b) wires, all_along b j.urgency kept))
     (λ e n. absurd (n refl))
 

@@ -1,6 +1,6 @@
 -- What the rules and the verdict on a proposal promise, in the words of jobs and boards.
 use Rattle.std.specs.Prelude.{◌≡◌, ℕ, ◌+◌, ◌<◌, ◌≤◌, true, false, ◌⊎◌, ◌↔◌, List, [], ◌∷◌, length, replicate, Ok, ◌≢◌, slice_index, slice_index_or}
-use Rattle.std.specs.List.{AllByRecursion as All}
+use Rattle.std.specs.List.{AllByRecursion}
 use Rattle.wiring.specs.Wires.{leaving}
 use Rattle.wiring.specs.declared.wire.Wire.{Wire}
 use Rattle.job.specs.Admitted.{admitted, no_record}
@@ -40,9 +40,9 @@ Edges =
 -- ## A tally
 -- whatever the letter, no word gets lower or passes the highest word, and there are no follow-ups
 abbrev pub TallyNeverLowers : Type 0
-TallyNeverLowers = (j : Job) (ws : List ℕ) → All (λ w. w ≤ 4294967295) ws →
+TallyNeverLowers = (j : Job) (ws : List ℕ) → AllByRecursion (λ w. w ≤ 4294967295) ws →
     ((k : ℕ) → slice_index ws k ≤ slice_index (tally_rule j ws).words k)
-    × All (λ w. w ≤ 4294967295) (tally_rule j ws).words
+    × AllByRecursion (λ w. w ≤ 4294967295) (tally_rule j ws).words
     × ((tally_rule j ws).followups ≡ [])
 
 -- ## A spread
@@ -79,7 +79,7 @@ pub record LeadsFrom (b urgency : ℕ) (j : Job) : Type 0 where
 abbrev pub SpreadSendsOn : Type 0
 SpreadSendsOn = (wires : List Wire) (j : Job) (ws : List ℕ) → ((spread_rule wires j ws).words ≢ ws) →
     (length (spread_rule wires j ws).followups ≡ leaving (slice_index j.points 1) wires)
-    × All (LeadsFrom (slice_index j.points 1) j.urgency) (spread_rule wires j ws).followups
+    × AllByRecursion (LeadsFrom (slice_index j.points 1) j.urgency) (spread_rule wires j ws).followups
 
 -- and one that does not write hands in nothing
 abbrev pub SpreadIsSilent : Type 0
@@ -94,7 +94,7 @@ PairedIsOne = (cut : ℕ) (first second : Rule) (j : Job) (ws : List ℕ) →
 -- ## A good proposal
 -- a job record whose points are below the board's size
 abbrev pub OnBoard : ℕ → Job → Type 0
-OnBoard size j = (admitted j ≡ Ok j) × All (λ p. p < size) j.points
+OnBoard size j = (admitted j ≡ Ok j) × AllByRecursion (λ p. p < size) j.points
 
 abbrev pub GoodExactly : Type 0
-GoodExactly = (size : ℕ) (p : Proposed) → (spoilt size p ≡ false) ↔ ((length p.followups ≤ 4) × All (OnBoard size) p.followups)
+GoodExactly = (size : ℕ) (p : Proposed) → (spoilt size p ≡ false) ↔ ((length p.followups ≤ 4) × AllByRecursion (OnBoard size) p.followups)

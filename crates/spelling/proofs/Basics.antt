@@ -2,7 +2,7 @@
 use Rattle.std.proofs.Common.{◌≡◌, ℕ, ◌<◌, Bool, true, false, eqb, List, [], ◌∷◌, ◌++◌, map, length, Some, None, Ok, Err, Option, Result, refl, ◌∙◌, arith}
 use mathlib.Core.Bool.{false≢true}
 use Rattle.std.proofs.lemmas.Bool.{eqb-true, eq-eqb, and_parts, or_parts}
-use Rattle.std.specs.List.{AllByRecursion as All}
+use Rattle.std.specs.List.{AllByRecursion}
 use Rattle.fixed.specs.Lists.{has}
 use Rattle.fixed.specs.Results.{and_then, or_else, given}
 use Rattle.fixed.proofs.Pushing.{by_bool}
@@ -41,24 +41,24 @@ each_back f w h (t ∷ ts) xs e =
     let (ys, p', q') = ok_then (each f ts) _ xs q in
     rw (← same_ok q', h t y p, each_back f w h ts ys p')
 
-pub each_all : {A B E : Type 0} (f : A → Result B E) (P : B → Type 0) → ((t : A) (x : B) → f t ≡ Ok x → P x) → (ts : List A) (xs : List B) → each f ts ≡ Ok xs → All P xs
+pub each_all : {A B E : Type 0} (f : A → Result B E) (P : B → Type 0) → ((t : A) (x : B) → f t ≡ Ok x → P x) → (ts : List A) (xs : List B) → each f ts ≡ Ok xs → AllByRecursion P xs
 each_all f P h [] xs e = rw (← same_ok e) tt
 each_all f P h (t ∷ ts) xs e =
     let (y, p, q) = ok_then (f t) _ xs e in
     let (ys, p', q') = ok_then (each f ts) _ xs q in
     rw (← same_ok q') (h t y p, each_all f P h ts ys p')
 
-pub each_reads : {A B E : Type 0} (f : A → Result B E) (w : B → A) (xs : List B) → All (λ x. f (w x) ≡ Ok x) xs → each f (map w xs) ≡ Ok xs
+pub each_reads : {A B E : Type 0} (f : A → Result B E) (w : B → A) (xs : List B) → AllByRecursion (λ x. f (w x) ≡ Ok x) xs → each f (map w xs) ≡ Ok xs
 each_reads f w [] a = refl
 each_reads f w (x ∷ xs) a = rw (a.0, each_reads f w xs a.1)
 
 -- ## Lists
-pub all_each : {A : Type 0} (P : A → Type 0) → ((x : A) → P x) → (xs : List A) → All P xs
+pub all_each : {A : Type 0} (P : A → Type 0) → ((x : A) → P x) → (xs : List A) → AllByRecursion P xs
 all_each P h [] = tt
 all_each P h (x ∷ xs) = (h x, all_each P h xs)
 
 -- what holds of all holds of one in the middle
-pub all_middle : {A : Type 0} (P : A → Type 0) (xs : List A) (y : A) (zs : List A) → All P (xs ++ (y ∷ zs)) → P y
+pub all_middle : {A : Type 0} (P : A → Type 0) (xs : List A) (y : A) (zs : List A) → AllByRecursion P (xs ++ (y ∷ zs)) → P y
 all_middle P [] y zs a = a.0
 all_middle P (x ∷ xs) y zs a = all_middle P xs y zs a.1
 
@@ -76,7 +76,7 @@ same_self (x ∷ xs) = rw (eq-eqb x x refl) (same_self xs)
 -- ## Pieces
 -- no byte of a text is c
 abbrev pub Free : ℕ → List ℕ → Type 0
-Free c l = All (λ b. eqb b c ≡ false) l
+Free c l = AllByRecursion (λ b. eqb b c ≡ false) l
 
 abbrev pub glue : ℕ → Pieces → List ℕ
 glue c (last l) = l
@@ -115,7 +115,7 @@ pub join_cut : (c : ℕ) (t : List ℕ) → join c (all_of (cut c t)) ≡ t
 join_cut c t = join_all c (cut c t) ∙ glue_cut c t
 
 -- pieces joined are cut into these pieces
-pub cut_join : (c : ℕ) (ls : List (List ℕ)) → 0 < length ls → All (Free c) ls → all_of (cut c (join c ls)) ≡ ls
+pub cut_join : (c : ℕ) (ls : List (List ℕ)) → 0 < length ls → AllByRecursion (Free c) ls → all_of (cut c (join c ls)) ≡ ls
 cut_join c [] h f = absurd (omega arith)
 cut_join c (l ∷ []) h f = rw (cut_last c l f.0)
 cut_join c (l ∷ (m ∷ ls)) h f = rw (cut_more c l (join c (m ∷ ls)) f.0, cut_join c (m ∷ ls) (omega arith) f.1)
@@ -129,13 +129,13 @@ pub free_append : (d : ℕ) (xs ys : List ℕ) → Free d xs → Free d ys → F
 free_append d [] ys f g = g
 free_append d (x ∷ xs) ys f g = (f.0, free_append d xs ys f.1 g)
 
-pub free_join : (d c : ℕ) → eqb c d ≡ false → (ls : List (List ℕ)) → All (Free d) ls → Free d (join c ls)
+pub free_join : (d c : ℕ) → eqb c d ≡ false → (ls : List (List ℕ)) → AllByRecursion (Free d) ls → Free d (join c ls)
 free_join d c e [] f = tt
 free_join d c e (l ∷ []) f = f.0
 free_join d c e (l ∷ (m ∷ ls)) f = free_append d l (c ∷ join c (m ∷ ls)) f.0 (e, free_join d c e (m ∷ ls) f.1)
 
 -- ## Lines with their ends
-pub cut_ended : (ls : List (List ℕ)) → All (Free 10) ls → cut 10 (with_ends ls) ≡ lines_then ls (last [])
+pub cut_ended : (ls : List (List ℕ)) → AllByRecursion (Free 10) ls → cut 10 (with_ends ls) ≡ lines_then ls (last [])
 cut_ended [] f = refl
 cut_ended (l ∷ ls) f = rw (cut_more 10 l (with_ends ls) f.0, cut_ended ls f.1)
 

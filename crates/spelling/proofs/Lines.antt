@@ -4,7 +4,7 @@ use mathlib.Core.Bool.{false≢true}
 use lib.ListN.{length-map}
 use Rattle.std.proofs.lemmas.Bool.{eqb-true, eqb-false, ne_eqb, and_parts, or_parts, ltb-true, lt-ltb, not-true}
 use Rattle.std.proofs.ByRecursion.{All-map}
-use Rattle.std.specs.List.{AllByRecursion as All}
+use Rattle.std.specs.List.{AllByRecursion}
 use Rattle.wiring.specs.declared.wire.Wire.{Wire}
 use Rattle.job.specs.Admitted.{no_record}
 use Rattle.fixed.specs.Lists.{every, has, distinct}
@@ -285,7 +285,7 @@ free_text d h j f Arg = let z = f Arg in free_decimal d (λ i. omega arith) j.ar
 free_text d h j f Urg = let z = f Urg in free_decimal d (λ i. omega arith) j.urgency (omega arith)
 free_text d h j f Points = free_points d (λ i. omega arith) (λ e. omega arith) (λ e. omega arith) j.points (f Points)
 
-free_texts : (d : ℕ) → d < 33 → (cs : List Column) (j : Job) → WithinJob j → All (Free d) (map (text j) cs)
+free_texts : (d : ℕ) → d < 33 → (cs : List Column) (j : Job) → WithinJob j → AllByRecursion (Free d) (map (text j) cs)
 free_texts d h cs j w = All-map (Free d) (text j) cs (all_each _ (free_text d h j (fits_all j w)) cs)
 
 pub free_job : (cs : List Column) (j : Job) → WithinJob j → Free 10 (job_text cs j)
@@ -339,7 +339,7 @@ wire_line_back before l w h =
     let (is, i, j, d) = three_back ts k many f in
     rw (← v) (ltb-true _ _ a, ap (join 32) (is ∙ sym e) ∙ join_cut 32 l, record { from = i; to = j; delay = d; apart = m }, n)
 
-free_three : (d : ℕ) → d < 33 → (w : Wire) → WithinWire w → All (Free d) (three w)
+free_three : (d : ℕ) → d < 33 → (w : Wire) → WithinWire w → AllByRecursion (Free d) (three w)
 free_three d h w W = (free_decimal d (λ i. omega arith) w.from (let z = W.from in omega arith), (free_decimal d (λ i. omega arith) w.to (let z = W.to in omega arith), (free_decimal d (λ i. omega arith) w.delay (let z = W.delay in omega arith), tt)))
 
 pub free_wire : (w : Wire) → WithinWire w → Free 10 (wire_text w)

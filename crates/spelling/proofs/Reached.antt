@@ -3,7 +3,7 @@ use Rattle.std.proofs.Common.{◌≡◌, ℕ, ◌<◌, Bool, true, false, cond, 
 use Rattle.std.proofs.ByRecursion.{All-weaker, All-map, All-append}
 use Rattle.std.proofs.lemmas.List.Sums.{sum_by-append, sum_by-cons}
 use Rattle.std.proofs.lemmas.Bool.{eq-eqb}
-use Rattle.std.specs.List.{AllByRecursion as All}
+use Rattle.std.specs.List.{AllByRecursion}
 use Rattle.wiring.specs.declared.wire.Wire.{Wire}
 use Rattle.job.specs.Plain.{Job}
 use Rattle.wiring.specs.Wires.{leaving}
@@ -58,10 +58,10 @@ pub lines_read : (cs : List Column) (b : Bool) (t : Tables) → order_of_four cs
 lines_read cs b t o W = spelled_lines cs o t.jobs W.jobs b t.wires W.wires
 
 -- no line holds the byte that ends lines
-free_wires : (ws : List Wire) → All WithinWire ws → All (Free 10) (wire_lines ws)
+free_wires : (ws : List Wire) → AllByRecursion WithinWire ws → AllByRecursion (Free 10) (wire_lines ws)
 free_wires ws a = (tt, (free_lacks 10 wire_names refl, All-map (Free 10) wire_text ws (All-weaker WithinWire _ free_wire ws a)))
 
-free_part : (b : Bool) (ws : List Wire) → All WithinWire ws → All (Free 10) (part b ws)
+free_part : (b : Bool) (ws : List Wire) → AllByRecursion WithinWire ws → AllByRecursion (Free 10) (part b ws)
 free_part true ws a = free_wires ws a
 free_part false [] a = tt
 free_part false (w ∷ ws) a = free_wires (w ∷ ws) a
@@ -73,6 +73,6 @@ some_ended (x ∷ l) ls = refl
 pub spelled_read : (cs : List Column) (b : Bool) (t : Tables) → order_of_four cs ≡ true → Within t → read (spell cs b t) ≡ Ok t
 spelled_read cs b t o W =
     let ls = job_lines cs t.jobs ++ part b t.wires in
-    let free : All (Free 10) ls = All-append (Free 10) (job_lines cs t.jobs) (part b t.wires)
+    let free : AllByRecursion (Free 10) ls = All-append (Free 10) (job_lines cs t.jobs) (part b t.wires)
     (free_names cs, All-map (Free 10) (job_text cs) t.jobs (All-weaker WithinJob _ (free_job cs) t.jobs W.jobs.each)) (free_part b t.wires W.wires.each) in
     rw (some_ended _ _, cut_ended ls free) (lines_read cs b t o W)

@@ -6,7 +6,7 @@ use Rattle.std.proofs.lemmas.Bool.{eqb-true, eqb-false, ne_eqb, and_parts, leb-t
 use Rattle.std.proofs.ByRecursion.{All-weaker, All-map}
 use Rattle.std.proofs.lemmas.Str.Parse.{IsNumeralModel, numerals_by_value, tells_all_ascii_digits}
 use Rattle.std.proofs.lemmas.Fmt.{decimal-digits_value, digits_decimal, digits_value-decimal, decimal_nonempty, first_decimal, decimal_digit}
-use Rattle.std.specs.List.{AllByRecursion as All}
+use Rattle.std.specs.List.{AllByRecursion}
 use Rattle.std.specs.Str.{all_ascii_digits}
 use Rattle.std.specs.Int.{IsInRange}
 use Rattle.std.specs.Str.Parse.{digits_value}
@@ -95,7 +95,7 @@ letter_reads x (inr e) = rw e
 
 -- ## Points
 pub record FewSmall (ps : List ℕ) : Type 0 where
-  pub small : All (λ p. p ≤ 255) ps
+  pub small : AllByRecursion (λ p. p ≤ 255) ps
   pub few : length ps ≤ 8
 
 joined_text : (ps : List ℕ) → 0 < length ps → points_text ps ≡ join 44 (map decimal ps)
@@ -127,7 +127,7 @@ points_back t ps h = go (points_parts t ps h)
           record { small = each_all (number 255) (λ p. p ≤ 255) (λ t x k. (number_back 255 (omega arith) t x k).1) ts ps g; few = omega arith },
         )
 
-free_pieces : (c : ℕ) → (IsInRange 48 57 c → ⊥) → (ps : List ℕ) → All (λ p. p ≤ 255) ps → All (Free c) (map decimal ps)
+free_pieces : (c : ℕ) → (IsInRange 48 57 c → ⊥) → (ps : List ℕ) → AllByRecursion (λ p. p ≤ 255) ps → AllByRecursion (Free c) (map decimal ps)
 free_pieces c h ps a = All-map (Free c) decimal ps (All-weaker (λ p. p ≤ 255) _ (λ p k. free_decimal c h p (omega arith)) ps a)
 
 pub points_reads : (ps : List ℕ) → FewSmall ps → points (points_text ps) ≡ Ok ps

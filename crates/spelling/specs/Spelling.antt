@@ -1,6 +1,6 @@
 -- What one writes for tables.
 use Rattle.std.specs.Prelude.{◌≡◌, ℕ, ◌≤◌, Bool, true, false, ◌⊎◌, List, [], ◌∷◌, ◌++◌, map, length, decimal}
-use Rattle.std.specs.List.{AllByRecursion as All}
+use Rattle.std.specs.List.{AllByRecursion}
 use Rattle.wiring.specs.declared.wire.Wire.{Wire}
 use Rattle.fixed.specs.Lists.{distinct}
 use Rattle.job.specs.Plain.{Job}
@@ -62,13 +62,13 @@ pub record WithinJob (j : Job) : Type 0 where
   pub letter : (j.letter ≡ 84) ⊎ (j.letter ≡ 83)
   pub argument : j.argument ≤ 4294967295
   pub urgency : j.urgency ≤ 9
-  pub points : All (λ p. p ≤ 255) j.points
+  pub points : AllByRecursion (λ p. p ≤ 255) j.points
   pub few : length j.points ≤ 8
   pub once : distinct j.points ≡ true
 
 pub record WithinJobs (js : List Job) : Type 0 where
   pub few : length js ≤ 64
-  pub each : All WithinJob js
+  pub each : AllByRecursion WithinJob js
 
 pub record WithinWire (w : Wire) : Type 0 where
   pub from : w.from ≤ 255
@@ -78,7 +78,7 @@ pub record WithinWire (w : Wire) : Type 0 where
 
 pub record WithinWires (ws : List Wire) : Type 0 where
   pub few : length ws ≤ 256
-  pub each : All WithinWire ws
+  pub each : AllByRecursion WithinWire ws
   pub four : (p : ℕ) → leaving p ws ≤ 4
 
 pub record Within (t : Tables) : Type 0 where
