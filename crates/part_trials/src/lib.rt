@@ -4,6 +4,6 @@
 #[cfg(test)]
 mod boards;
 #[cfg(test)]
-mod procedures;
+mod counts;
 #[cfg(test)]
-mod ranking;
+mod procedures;

@@ -4,9 +4,9 @@
 #[cfg(test)]
 mod clashes;
 #[cfg(test)]
-mod fields;
-#[cfg(test)]
 mod first_fault;
+#[cfg(test)]
+mod job_lines;
 #[cfg(test)]
 mod limits;
 #[cfg(test)]
