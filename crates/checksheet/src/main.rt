@@ -1,18 +1,53 @@
 // Checks a commissioning sheet: the file that is named, or standard input.
 #![tactic(auto)]
 
-use anyhow::anyhow;
 use listing::check::{MOST_BYTES, check};
 use listing::fault::CheckFault;
 use listing::text::{refusal_text, report_text};
+use std::alloc::AllocError;
 use std::fs::File;
 use std::io::Read;
-use std::{env, io};
+use std::process::ExitCode;
+use std::{env, fmt, io};
 
 // What was said of the sheet; a refused one ends the program with status 1.
 enum Verdict {
     Accepted,
     Refused,
+}
+
+// Why nothing can be said of a sheet.
+#[derive(Drop)]
+enum Failure {
+    // the file that is named here cannot be read
+    File(String, io::Error),
+    TooManyArguments,
+    Stream(io::Error),
+}
+
+impl From<io::Error> for Failure {
+    fn from(error: io::Error) -> Failure {
+        Failure::Stream(error)
+    }
+}
+
+impl From<AllocError> for Failure {
+    fn from(error: AllocError) -> Failure {
+        Failure::Stream(error.into())
+    }
+}
+
+impl fmt::Display for Failure {
+    fn fmt<W: fmt::Write>(&self, f: &mut fmt::Formatter<W>) -> fmt::Result {
+        match self {
+            Failure::File(path, error) => write!(f, "{path}: {error}"),
+            Failure::TooManyArguments => write!(
+                f,
+                "more than one argument: name one file, or none for standard input"
+            ),
+            Failure::Stream(error) => write!(f, "{error}"),
+        }
+    }
 }
 
 // Up to one byte more than a sheet may have, so that a longer one is seen.
@@ -24,33 +59,33 @@ fn bounded(input: impl Read + Drop, rt: &HostRuntime) -> io::Result<Vec<u8>> {
 }
 
 // The bytes of a file; a file that cannot be read is named in the error.
-fn named(rt: &HostRuntime, path: &str) -> anyhow::Result<Vec<u8>> {
-    let read = match File::open(rt, path) {
+fn named(rt: &HostRuntime, path: String) -> Result<Vec<u8>, Failure> {
+    let read = match File::open(rt, path.as_str()) {
         Ok(file) => bounded(file, rt),
         Err(error) => Err(error),
     };
     match read {
         Ok(bytes) => Ok(bytes),
-        Err(error) => Err(anyhow!(format!(in rt.alloc(); "{path}: {error}")?)),
+        Err(error) => Err(Failure::File(path, error)),
     }
 }
 
 // The bytes of the sheet that the arguments name.
-fn input(rt: &HostRuntime) -> anyhow::Result<Vec<u8>> {
+fn input(rt: &HostRuntime) -> Result<Vec<u8>, Failure> {
     let mut args = env::args(rt)?;
     let _program = args.next();
     let file = args.next();
     if args.next().is_some() {
-        return Err(anyhow!("more than one argument: name one file, or none for standard input"));
+        return Err(Failure::TooManyArguments);
     }
     match file {
-        Some(path) => named(rt, path.as_str()),
+        Some(path) => named(rt, path),
         None => Ok(bounded(rt.stdin(), rt)?),
     }
 }
 
 // Prints the refusal as a listing, and for people what is wrong.
-fn refuse(rt: &HostRuntime, fault: CheckFault) -> anyhow::Result<Verdict> {
+fn refuse(rt: &HostRuntime, fault: CheckFault) -> Result<Verdict, Failure> {
     if let Some(refusal) = fault.refusal() {
         rt.print(refusal_text(refusal, rt.alloc())?)?;
     }
@@ -58,7 +93,7 @@ fn refuse(rt: &HostRuntime, fault: CheckFault) -> anyhow::Result<Verdict> {
     Ok(Verdict::Refused)
 }
 
-fn run(rt: &HostRuntime) -> anyhow::Result<Verdict> {
+fn run(rt: &HostRuntime) -> Result<Verdict, Failure> {
     let bytes = input(rt)?;
     match check(bytes.as_slice(), rt.alloc()) {
         Ok(report) => {
@@ -69,13 +104,13 @@ fn run(rt: &HostRuntime) -> anyhow::Result<Verdict> {
     }
 }
 
-fn main(rt: HostRuntime) -> Result<(), ()> {
+fn main(rt: HostRuntime) -> ExitCode {
     match run(&rt) {
-        Ok(Verdict::Accepted) => Ok(()),
-        Ok(Verdict::Refused) => Err(()),
+        Ok(Verdict::Accepted) => ExitCode::SUCCESS,
+        Ok(Verdict::Refused) => ExitCode::FAILURE,
         Err(error) => {
             let _ = eprintln!(rt; "checksheet: {error}");
-            Err(())
+            ExitCode::FAILURE
         }
     }
 }
