@@ -5,7 +5,8 @@
 
 Words are in snake case, types in upper camel case. It goes over the text of crates/, once: names that specs/ and
 proofs/ define (and the other names by which a `use` takes them) lose their dashes, wherever they are cited.
-What Rattle makes (goals, steps of a proof, names behind a dot), code, strings and comments' prose stay.
+What Rattle makes (goals, steps of a proof, names behind a dot) stays, and so does what a source file has outside its
+clauses and ghost items.
 It stops where two names would fall together, but for those that OTHER gives a name of their own.
 """
 import pathlib
@@ -89,7 +90,7 @@ def table():
     return turn
 
 
-def respell(text, turn, code):
+def respell(text, turn):
     out, last = [], 0
     for m in NAME.finditer(text):
         word = m.group(0)
@@ -128,7 +129,7 @@ def respell_code(text, turn):
     for a, b in sorted(spans_of_code(text)):
         if a < last:
             continue
-        out += [text[last:a], respell(text[a:b], turn, True)]
+        out += [text[last:a], respell(text[a:b], turn)]
         last = b
     return ''.join(out) + text[last:]
 
@@ -137,7 +138,7 @@ def main():
     turn = table()
     for path in antt_files():
         text = path.read_text()
-        new = respell(text, turn, False)
+        new = respell(text, turn)
         if new != text:
             path.write_text(new)
     for path in sorted(TOP.glob('crates/*/src/**/*.rt')):
