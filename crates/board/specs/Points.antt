@@ -1,13 +1,13 @@
 -- The words at a list of points, read and put.
 use Rattle.std.specs.Prelude.{◌≡◌, ℕ, Bool, List, [], ◌∷◌, map, length, Ok, Err, Result, MatchResult, ◌==◌, nat_le, nat_lt, slice_index, slice_set}
-use Rattle.fixed.specs.Lists.{every}
+use Rattle.std.specs.List.{list_all}
 use Rattle.fixed.specs.Results.{given}
 use Rattle.board.specs.declared.fault.BoardFault.{BoardFault}
 use Rattle.board.specs.declared.fault.BoardFault.TheVariants.{WrongLength, NotOnBoard}
 
 -- whether each point is below a board's size
 abbrev pub on_board : ℕ → List ℕ → Bool
-on_board size ps = every (λ p. nat_lt p size) ps
+on_board size ps = list_all (λ p. nat_lt p size) ps
 
 -- the words at the points, in their order
 abbrev pub words_at : List ℕ → List ℕ → List ℕ

@@ -1,7 +1,8 @@
 -- Different numbers below n are at most n; if they are n, each number below n is among them.
 use Rattle.std.proofs.Common.{◌≡◌, ℕ, zero, suc, ◌<◌, ◌≤◌, Bool, true, false, cond, not, ◌||◌, eqb, ltb, List, [], ◌∷◌, length, get_or, sym, refl, ap, ◌∙◌, arith}
 use Rattle.std.proofs.lemmas.Bool.{and_parts, and_from, or_parts, or_from, not-true, not_from_false, ltb-true, lt-ltb, eqb-true, eqb-false, ne_eqb, false≢true}
-use Rattle.fixed.specs.Lists.{every, has, distinct}
+use Rattle.std.specs.List.{list_all}
+use Rattle.fixed.specs.Lists.{has, distinct}
 use Rattle.fixed.proofs.Pushing.{by_bool}
 
 -- the list without the first v
@@ -22,13 +23,13 @@ length_without v (x ∷ xs) h =
     (λ e. ap (λ (l : List ℕ). suc (length l)) (without_here v x xs e))
     (λ e. ap (λ (l : List ℕ). suc (length l)) (without_there v x xs e) ∙ ap suc (length_without v xs (sym (ap (λ (b : Bool). b || has xs v) e) ∙ h)))
 
-every_without : (f : ℕ → Bool) (v : ℕ) (xs : List ℕ) → every f xs ≡ true → every f (without v xs) ≡ true
+every_without : (f : ℕ → Bool) (v : ℕ) (xs : List ℕ) → list_all f xs ≡ true → list_all f (without v xs) ≡ true
 every_without f v [] h = refl
 every_without f v (x ∷ xs) h =
-    let p = and_parts (f x) (every f xs) h in
+    let p = and_parts (f x) (list_all f xs) h in
     by_bool (eqb x v)
-    (λ e. ap (every f) (without_here v x xs e) ∙ p.1)
-    (λ e. ap (every f) (without_there v x xs e) ∙ and_from _ _ p.0 (every_without f v xs p.1))
+    (λ e. ap (list_all f) (without_here v x xs e) ∙ p.1)
+    (λ e. ap (list_all f) (without_there v x xs e) ∙ and_from _ _ p.0 (every_without f v xs p.1))
 
 lacks_without : (u v : ℕ) (xs : List ℕ) → has xs u ≡ false → has (without v xs) u ≡ false
 lacks_without u v [] h = refl
@@ -55,18 +56,18 @@ gone v (x ∷ xs) h =
     (λ e. ap (λ (l : List ℕ). has l v) (without_there v x xs e) ∙ or_from _ _ e (gone v xs p.1))
 
 -- numbers below n + 1, none of which is n, are below n
-below_less : (n : ℕ) (xs : List ℕ) → every (λ x. ltb x (suc n)) xs ≡ true → has xs n ≡ false → every (λ x. ltb x n) xs ≡ true
+below_less : (n : ℕ) (xs : List ℕ) → list_all (λ x. ltb x (suc n)) xs ≡ true → has xs n ≡ false → list_all (λ x. ltb x n) xs ≡ true
 below_less n [] h k = refl
 below_less n (x ∷ xs) h k =
-    let p = and_parts (ltb x (suc n)) (every (λ x. ltb x (suc n)) xs) h in
+    let p = and_parts (ltb x (suc n)) (list_all (λ x. ltb x (suc n)) xs) h in
     let q = or_parts (eqb x n) (has xs n) k in
     let a : x < suc n = ltb-true x (suc n) p.0 in
     let b : x ≡ n → ⊥ = eqb-false x n q.0 in
     and_from _ _ (lt-ltb x n (omega arith)) (below_less n xs p.1 q.1)
 
-pub fewer : (n : ℕ) (xs : List ℕ) → every (λ x. ltb x n) xs ≡ true → distinct xs ≡ true → length xs ≤ n
+pub fewer : (n : ℕ) (xs : List ℕ) → list_all (λ x. ltb x n) xs ≡ true → distinct xs ≡ true → length xs ≤ n
 fewer zero [] h k = omega arith
-fewer zero (x ∷ xs) h k = let a : x < 0 = ltb-true x 0 (and_parts (ltb x 0) (every (λ y. ltb y 0) xs) h).0 in absurd (omega arith)
+fewer zero (x ∷ xs) h k = let a : x < 0 = ltb-true x 0 (and_parts (ltb x 0) (list_all (λ y. ltb y 0) xs) h).0 in absurd (omega arith)
 fewer (suc n) xs h k =
     by_bool (has xs n)
     (λ e.
@@ -74,7 +75,7 @@ fewer (suc n) xs h k =
     omega (arith, length_without n xs e, rest))
     (λ e. omega (arith, fewer n xs (below_less n xs h e) k))
 
-pub onto : (xs : List ℕ) (v : ℕ) → every (λ x. ltb x (length xs)) xs ≡ true → distinct xs ≡ true → v < length xs → has xs v ≡ true
+pub onto : (xs : List ℕ) (v : ℕ) → list_all (λ x. ltb x (length xs)) xs ≡ true → distinct xs ≡ true → v < length xs → has xs v ≡ true
 onto xs v h k l =
     by_bool (has xs v)
     (λ e. e)
@@ -83,7 +84,7 @@ onto xs v h k l =
     absurd (omega arith))
 
 -- ## By places
-every_placed : (f : ℕ → Bool) (xs : List ℕ) → ((i : ℕ) → i < length xs → f (get_or xs i 0) ≡ true) → every f xs ≡ true
+every_placed : (f : ℕ → Bool) (xs : List ℕ) → ((i : ℕ) → i < length xs → f (get_or xs i 0) ≡ true) → list_all f xs ≡ true
 every_placed f [] h = refl
 every_placed f (x ∷ xs) h = and_from _ _ (h 0 (omega arith)) (every_placed f xs (λ i l. h (suc i) (omega arith)))
 

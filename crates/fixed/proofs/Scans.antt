@@ -2,20 +2,21 @@
 use Rattle.std.proofs.Common.{◌≡◌, ℕ, zero, suc, ◌+◌, ◌-◌, ◌<◌, Bool, true, false, ◌||◌, List, [], ◌∷◌, ◌++◌, length, get_or, take, drop, set, sym, refl, ◌∙◌}
 use Rattle.std.proofs.lemmas.List.{at_drop_more, take_rest}
 use Rattle.std.proofs.lemmas.Bool.{and_parts}
-use Rattle.fixed.specs.Lists.{some, every, has, distinct}
+use Rattle.std.specs.List.{list_all, list_any}
+use Rattle.fixed.specs.Lists.{has, distinct}
 
 module _ {A : Type 0} (f : A → Bool) (xs : List A) (i : ℕ) (d : A) where
-  pub some_stays : i < length xs → f (get_or xs i d) ≡ false → some f (drop i xs) ≡ some f (drop (i + 1) xs)
-  some_stays h e = at_drop_more (some f) xs i d h ∙ rw e
+  pub some_stays : i < length xs → f (get_or xs i d) ≡ false → list_any f (drop i xs) ≡ list_any f (drop (i + 1) xs)
+  some_stays h e = at_drop_more (list_any f) xs i d h ∙ rw e
 
-  pub some_found : i < length xs → f (get_or xs i d) ≡ true → some f (drop i xs) ≡ true
-  some_found h e = at_drop_more (some f) xs i d h ∙ rw e
+  pub some_found : i < length xs → f (get_or xs i d) ≡ true → list_any f (drop i xs) ≡ true
+  some_found h e = at_drop_more (list_any f) xs i d h ∙ rw e
 
-  pub every_stays : i < length xs → f (get_or xs i d) ≡ true → every f (drop i xs) ≡ every f (drop (i + 1) xs)
-  every_stays h e = at_drop_more (every f) xs i d h ∙ rw e
+  pub every_stays : i < length xs → f (get_or xs i d) ≡ true → list_all f (drop i xs) ≡ list_all f (drop (i + 1) xs)
+  every_stays h e = at_drop_more (list_all f) xs i d h ∙ rw e
 
-  pub every_fails : i < length xs → f (get_or xs i d) ≡ false → every f (drop i xs) ≡ false
-  every_fails h e = at_drop_more (every f) xs i d h ∙ rw e
+  pub every_fails : i < length xs → f (get_or xs i d) ≡ false → list_all f (drop i xs) ≡ false
+  every_fails h e = at_drop_more (list_all f) xs i d h ∙ rw e
 
 pub distinct_stays : (xs : List ℕ) (i : ℕ) → i < length xs → has (take (length xs - (i + 1)) (drop (i + 1) xs)) (get_or xs i 0) ≡ false → distinct (drop i xs) ≡ distinct (drop (i + 1) xs)
 distinct_stays xs i h e = let k = rw (take_rest xs (i + 1)) at e in at_drop_more distinct xs i 0 h ∙ rw k
@@ -24,27 +25,27 @@ pub distinct_fails : (xs : List ℕ) (i : ℕ) → i < length xs → has (take (
 distinct_fails xs i h e = let k = rw (take_rest xs (i + 1)) at e in at_drop_more distinct xs i 0 h ∙ rw k
 
 -- ## One element more, or another one
-pub every_push : {A : Type 0} (f : A → Bool) (xs : List A) (y : A) → every f xs ≡ true → f y ≡ true → every f (xs ++ y ∷ []) ≡ true
+pub every_push : {A : Type 0} (f : A → Bool) (xs : List A) (y : A) → list_all f xs ≡ true → f y ≡ true → list_all f (xs ++ y ∷ []) ≡ true
 every_push f [] y h k = rw k
-every_push f (x ∷ xs) y h k = let (p, q) = and_parts (f x) (every f xs) h in rw (p, every_push f xs y q k)
+every_push f (x ∷ xs) y h k = let (p, q) = and_parts (f x) (list_all f xs) h in rw (p, every_push f xs y q k)
 
-pub every_set : {A : Type 0} (f : A → Bool) (xs : List A) (i : ℕ) (y : A) → every f xs ≡ true → f y ≡ true → every f (set xs i y) ≡ true
+pub every_set : {A : Type 0} (f : A → Bool) (xs : List A) (i : ℕ) (y : A) → list_all f xs ≡ true → f y ≡ true → list_all f (set xs i y) ≡ true
 every_set f [] i y h k = refl
-every_set f (x ∷ xs) zero y h k = let (p, q) = and_parts (f x) (every f xs) h in rw (k, q)
-every_set f (x ∷ xs) (suc i) y h k = let (p, q) = and_parts (f x) (every f xs) h in rw (p, every_set f xs i y q k)
+every_set f (x ∷ xs) zero y h k = let (p, q) = and_parts (f x) (list_all f xs) h in rw (k, q)
+every_set f (x ∷ xs) (suc i) y h k = let (p, q) = and_parts (f x) (list_all f xs) h in rw (p, every_set f xs i y q k)
 
-pub some_push : {A : Type 0} (f : A → Bool) (xs : List A) (y : A) → some f (xs ++ y ∷ []) ≡ (some f xs || f y)
+pub some_push : {A : Type 0} (f : A → Bool) (xs : List A) (y : A) → list_any f (xs ++ y ∷ []) ≡ (list_any f xs || f y)
 some_push f [] y = go (f y)
   where
     go : (b : Bool) → (b || false) ≡ b
     go true = refl
     go false = refl
-some_push f (x ∷ xs) y = rw (some_push f xs y) (sym (or_assoc (f x) (some f xs) (f y)))
+some_push f (x ∷ xs) y = rw (some_push f xs y) (sym (or_assoc (f x) (list_any f xs) (f y)))
   where
     or_assoc : (a b c : Bool) → ((a || b) || c) ≡ (a || (b || c))
     or_assoc true b c = refl
     or_assoc false b c = refl
 
-pub some_same : {A : Type 0} (f g : A → Bool) → ((x : A) → f x ≡ g x) → (xs : List A) → some f xs ≡ some g xs
+pub some_same : {A : Type 0} (f g : A → Bool) → ((x : A) → f x ≡ g x) → (xs : List A) → list_any f xs ≡ list_any g xs
 some_same f g e [] = refl
 some_same f g e (x ∷ xs) = rw (e x, some_same f g e xs)

@@ -3,9 +3,10 @@ use Rattle.std.proofs.Common.{◌≡◌, ℕ, ◌+◌, ◌-◌, ◌<◌, ◌≤�
 use lib.ListN.{length-replicate, length-map}
 use Rattle.std.proofs.lemmas.List.{take_more, take_all, take_more_set, replicate_more, get_or-set_same, get_or-set_other, get_or-replicate, get_or_past, get_or-map}
 use Rattle.std.proofs.lemmas.Bool.{eqb-true, eqb-false, cases_lt}
+use Rattle.std.specs.List.{list_any}
 use Rattle.job.specs.declared.record.JobRecord.{JobRecord}
 use Rattle.job.specs.Admitted.{admitted, no_record}
-use Rattle.fixed.specs.Lists.{some, has}
+use Rattle.fixed.specs.Lists.{has}
 use Rattle.job.specs.Plain.{Job}
 use Rattle.job.specs.Records.{job_of}
 use Rattle.job.specs.Preview.{blank_marks, marked, Marked, UnmarkedFrom, HighestMarked, HighestClash, job_at}
@@ -60,15 +61,15 @@ module _ (ms : List ℕ) (js : List JobRecord) where
   unmarked_none k h l = let e = length-map js job_of in absurd (omega arith)
 
   -- what is asked of the points of the record at n - 1
-  points_at : (n : ℕ) (r : JobRecord) (ps : List ℕ) (b : Bool) → 0 < n → n ≤ length js → r ≡ get_or js (n - 1) r → ps ≡ (job_of r).points → b ≡ some (marked ms) ps → some (marked ms) (job_at (map job_of js) (n - 1)).points ≡ b
-  points_at n r ps b p l e q s = ap (λ (j : Job). some (marked ms) j.points) (job_read js (n - 1) r (omega arith) e) ∙ (ap (some (marked ms)) (sym q) ∙ sym s)
+  points_at : (n : ℕ) (r : JobRecord) (ps : List ℕ) (b : Bool) → 0 < n → n ≤ length js → r ≡ get_or js (n - 1) r → ps ≡ (job_of r).points → b ≡ list_any (marked ms) ps → list_any (marked ms) (job_at (map job_of js) (n - 1)).points ≡ b
+  points_at n r ps b p l e q s = ap (λ (j : Job). list_any (marked ms) j.points) (job_read js (n - 1) r (omega arith) e) ∙ (ap (list_any (marked ms)) (sym q) ∙ sym s)
 
-  pub marked_found : (n : ℕ) (r : JobRecord) (ps : List ℕ) → 0 < n → n ≤ length js → r ≡ get_or js (n - 1) r → ps ≡ (job_of r).points → true ≡ some (marked ms) ps → UnmarkedFrom ms (map job_of js) n → HighestMarked ms (map job_of js) (Some n)
+  pub marked_found : (n : ℕ) (r : JobRecord) (ps : List ℕ) → 0 < n → n ≤ length js → r ≡ get_or js (n - 1) r → ps ≡ (job_of r).points → true ≡ list_any (marked ms) ps → UnmarkedFrom ms (map job_of js) n → HighestMarked ms (map job_of js) (Some n)
   marked_found n r ps p l e q s u = let z = length-map js job_of in (omega arith, omega arith, points_at n r ps true p l e q s, u)
 
-  pub unmarked_step : (n : ℕ) (r : JobRecord) (ps : List ℕ) → 0 < n → n ≤ length js → r ≡ get_or js (n - 1) r → ps ≡ (job_of r).points → false ≡ some (marked ms) ps → UnmarkedFrom ms (map job_of js) n → UnmarkedFrom ms (map job_of js) (n - 1)
+  pub unmarked_step : (n : ℕ) (r : JobRecord) (ps : List ℕ) → 0 < n → n ≤ length js → r ≡ get_or js (n - 1) r → ps ≡ (job_of r).points → false ≡ list_any (marked ms) ps → UnmarkedFrom ms (map job_of js) n → UnmarkedFrom ms (map job_of js) (n - 1)
   unmarked_step n r ps p l e q s u k h m = ⊎_elim
-      (λ z. let y : k ≡ n - 1 = omega arith in ap (λ x. some (marked ms) (job_at (map job_of js) x).points) y ∙ points_at n r ps false p l e q s)
+      (λ z. let y : k ≡ n - 1 = omega arith in ap (λ x. list_any (marked ms) (job_at (map job_of js) x).points) y ∙ points_at n r ps false p l e q s)
       (λ z. u k z m) (cases_lt k n)
 
 -- the jobs that have a marked point are those that clash with a job whose points are marked

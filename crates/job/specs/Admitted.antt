@@ -1,10 +1,11 @@
 -- Which plain jobs are job records.
 use Rattle.std.specs.Prelude.{ℕ, ◌&&◌, leb, List, [], length, Ok, Result, nat_le}
+use Rattle.std.specs.List.{list_all}
 use Rattle.job.specs.declared.fault.FieldFault.{FieldFault}
 use Rattle.job.specs.declared.fault.FieldFault.TheVariants.{AboveRange, UnknownLetter, TooManyPoints}
 use Rattle.job.specs.declared.fault.JobFault.{JobFault}
 use Rattle.job.specs.declared.fault.JobFault.TheVariants.{Field, PointTwice}
-use Rattle.fixed.specs.Lists.{distinct, every}
+use Rattle.fixed.specs.Lists.{distinct}
 use Rattle.job.specs.Plain.{Job}
 use Rattle.fixed.specs.Results.{given, and_then, or_else}
 
@@ -17,7 +18,7 @@ urgency_within u = given (nat_le u 9) (AboveRange 9) (Ok u)
 
 -- at most 8 points, each at most 255
 abbrev pub points_within : List ℕ → Result (List ℕ) FieldFault
-points_within ps = given (nat_le (length ps) 8) TooManyPoints (given (every (λ p. leb p 255) ps) (AboveRange 255) (Ok ps))
+points_within ps = given (nat_le (length ps) 8) TooManyPoints (given (list_all (λ p. leb p 255) ps) (AboveRange 255) (Ok ps))
 
 -- a job as it is, or its first fault
 abbrev pub admitted : Job → Result Job JobFault

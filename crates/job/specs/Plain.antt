@@ -1,6 +1,7 @@
 -- A job as a plain value.
 use Rattle.std.specs.Prelude.{ℕ, Bool, List}
-use Rattle.fixed.specs.Lists.{has, some}
+use Rattle.std.specs.List.{list_any}
+use Rattle.fixed.specs.Lists.{has}
 
 -- a letter by its code, an argument, an urgency, and the points in their order
 pub record Job : Type 0 where
@@ -11,4 +12,4 @@ pub record Job : Type 0 where
 
 -- two jobs clash when they share a point
 abbrev pub clashes : Job → Job → Bool
-clashes j k = some (has j.points) k.points
+clashes j k = list_any (has j.points) k.points

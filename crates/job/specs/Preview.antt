@@ -2,10 +2,11 @@
 use Rattle.std.specs.Prelude.{◌≡◌, ℕ, ◌-◌, ◌<◌, ◌≤◌, Bool, true, false, not, List, length, replicate, Ok, Err, Option, Result, ◌==◌, ◌≢◌, slice_index, slice_index_or}
 use Rattle.std.specs.Option as options
 use Rattle.std.specs.Result as results
+use Rattle.std.specs.List.{list_any}
 use Rattle.job.specs.declared.fault.PreviewFault.{PreviewFault}
 use Rattle.job.specs.declared.fault.PreviewFault.TheVariants.{WrongLength, Candidate}
 use Rattle.job.specs.Admitted.{admitted, no_record}
-use Rattle.fixed.specs.Lists.{has, some}
+use Rattle.fixed.specs.Lists.{has}
 use Rattle.job.specs.Plain.{Job, clashes}
 
 -- the job at a place, counted from 0: job number n stands at n - 1
@@ -34,12 +35,12 @@ Marked ms ps = (p : ℕ) → marked ms p ≡ has ps p
 
 -- no job from place i on has a marked point
 abbrev pub UnmarkedFrom : List ℕ → List Job → ℕ → Type 0
-UnmarkedFrom ms js i = (k : ℕ) → i ≤ k → k < length js → some (marked ms) (job_at js k).points ≡ false
+UnmarkedFrom ms js i = (k : ℕ) → i ≤ k → k < length js → list_any (marked ms) (job_at js k).points ≡ false
 
 -- the highest number of a job that has a marked point, or nothing if none has
 abbrev pub HighestMarked : List ℕ → List Job → Option ℕ → Type 0
 HighestMarked ms js r =
-    options.MatchOption r (UnmarkedFrom ms js 0) (λ n. (1 ≤ n) × (n ≤ length js) × (some (marked ms) (job_at js (n - 1)).points ≡ true) × UnmarkedFrom ms js n)
+    options.MatchOption r (UnmarkedFrom ms js 0) (λ n. (1 ≤ n) × (n ≤ length js) × (list_any (marked ms) (job_at js (n - 1)).points ≡ true) × UnmarkedFrom ms js n)
 
 -- 256 marks end blank, whatever they held; a list of another length stays as it was
 abbrev pub Blanked : List ℕ → List ℕ → Type 0

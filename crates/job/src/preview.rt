@@ -1,5 +1,5 @@
 ghost use Rattle.std.specs.Prelude.{◌≡◌, map, length};
-ghost use Rattle.fixed.specs.Lists.{some};
+ghost use Rattle.std.specs.List.{list_any};
 ghost use Rattle.job.specs.Records.{job_of, jobs_of, draft_of};
 ghost use Rattle.job.specs.Preview.{marked, HighestMarked, Previewed, Blanked};
 
@@ -12,7 +12,7 @@ use crate::table::JobTable;
 // Whether one of the points is marked.
 fn any_marked(marks: &[u8], points: &[u8]) -> bool
     requires { length marks.now ≡ 256 }
-    ensures { result ≡ some (marked marks.now) points.now }
+    ensures { result ≡ list_any (marked marks.now) points.now }
 {
     for p in points {
         if marks[*p as usize] != 0 {

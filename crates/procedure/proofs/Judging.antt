@@ -1,7 +1,7 @@
 -- A list that is turned into another element by element, while none fails a test.
 use Rattle.std.proofs.Common.{◌≡◌, ℕ, ◌+◌, ◌<◌, ◌≤◌, Bool, true, false, List, [], ◌∷◌, ◌++◌, map, length, get_or, take, drop, sym, ap, ◌∙◌, arith}
 use Rattle.std.proofs.lemmas.List.{at_drop_more, at_drop_all, take_all, map_push, map_more, length-map, length-take}
-use Rattle.fixed.specs.Lists.{some}
+use Rattle.std.specs.List.{list_any}
 
 module _ {A B C : Type 0} (g : A → C) (h : B → C) (xs : List B) (i : ℕ) where
   -- as many were turned as were met
@@ -22,15 +22,15 @@ module _ {A B C : Type 0} (g : A → C) (h : B → C) (xs : List B) (i : ℕ) wh
   turned_all done e l = e ∙ ap (map h) (take_all i xs l)
 
 module _ {B C : Type 0} (h : B → C) (test : C → Bool) (xs : List B) (i : ℕ) where
-  pub passes : (x : B) → i < length xs → x ≡ get_or xs i x → test (h x) ≡ false → some test (map h (drop i xs)) ≡ some test (map h (drop (i + 1) xs))
+  pub passes : (x : B) → i < length xs → x ≡ get_or xs i x → test (h x) ≡ false → list_any test (map h (drop i xs)) ≡ list_any test (map h (drop (i + 1) xs))
   passes x l r e =
       let t : test (h (get_or xs i x)) ≡ false = ap (λ (y : B). test (h y)) (sym r) ∙ e in
-      at_drop_more (λ (l : List B). some test (map h l)) xs i x l ∙ rw t
+      at_drop_more (λ (l : List B). list_any test (map h l)) xs i x l ∙ rw t
 
-  pub caught : (x : B) → i < length xs → x ≡ get_or xs i x → test (h x) ≡ true → some test (map h (drop i xs)) ≡ true
+  pub caught : (x : B) → i < length xs → x ≡ get_or xs i x → test (h x) ≡ true → list_any test (map h (drop i xs)) ≡ true
   caught x l r e =
       let t : test (h (get_or xs i x)) ≡ true = ap (λ (y : B). test (h y)) (sym r) ∙ e in
-      at_drop_more (λ (l : List B). some test (map h l)) xs i x l ∙ rw t
+      at_drop_more (λ (l : List B). list_any test (map h l)) xs i x l ∙ rw t
 
-  pub none_left : length xs ≤ i → some test (map h (drop i xs)) ≡ false
-  none_left l = at_drop_all (λ (l : List B). some test (map h l)) xs i l
+  pub none_left : length xs ≤ i → list_any test (map h (drop i xs)) ≡ false
+  none_left l = at_drop_all (λ (l : List B). list_any test (map h l)) xs i l

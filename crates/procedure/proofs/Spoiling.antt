@@ -1,7 +1,8 @@
 -- A follow-up spoils its proposal exactly if it is no job record, or has a point that is not below the size.
 use Rattle.std.proofs.Common.{◌≡◌, ℕ, min, Bool, true, false, not, ◌&&◌, ◌||◌, ltb, leb, List, [], ◌∷◌, length, is_ok, Ok, Err, Result, sym, refl, ap, ◌∙◌, arith}
 use Rattle.std.proofs.lemmas.Bool.Decides.{nat_tests}
-use Rattle.fixed.specs.Lists.{every, distinct}
+use Rattle.std.specs.List.{list_all}
+use Rattle.fixed.specs.Lists.{distinct}
 use Rattle.fixed.specs.Results.{given, and_then, or_else}
 use Rattle.job.proofs.Admitting.{admitted_same}
 use Rattle.job.specs.Admitted.{admitted}
@@ -23,8 +24,8 @@ through true false c d e f l u ps j x y z w v up = refl
 through false b c d e f l u ps j x y z w v up = refl
 
 pub admitted_test : (j : Job) → is_ok (admitted j)
-    ≡ (leb 65 j.letter && (leb j.letter 90 && (leb j.urgency 9 && (leb (length j.points) 8 && (every (λ (p : ℕ). leb p 255) j.points && distinct j.points)))))
-admitted_test j = through (leb 65 j.letter) (leb j.letter 90) (leb j.urgency 9) (leb (length j.points) 8) (every (λ (p : ℕ). leb p 255) j.points) (distinct j.points) _ _ _ j _ _ _ _ _ _
+    ≡ (leb 65 j.letter && (leb j.letter 90 && (leb j.urgency 9 && (leb (length j.points) 8 && (list_all (λ (p : ℕ). leb p 255) j.points && distinct j.points)))))
+admitted_test j = through (leb 65 j.letter) (leb j.letter 90) (leb j.urgency 9) (leb (length j.points) 8) (list_all (λ (p : ℕ). leb p 255) j.points) (distinct j.points) _ _ _ j _ _ _ _ _ _
 
 ltb_not : (a b : ℕ) → ltb a b ≡ not (leb b a)
 ltb_not a b = grind (arith, nat_tests)
@@ -33,9 +34,9 @@ ltb_not a b = grind (arith, nat_tests)
 below_both : (size p : ℕ) → ltb p (min size 256) ≡ (ltb p size && leb p 255)
 below_both size p = grind (arith, nat_tests)
 
-on_both : (size : ℕ) (ps : List ℕ) → on_board (min size 256) ps ≡ (on_board size ps && every (λ (p : ℕ). leb p 255) ps)
+on_both : (size : ℕ) (ps : List ℕ) → on_board (min size 256) ps ≡ (on_board size ps && list_all (λ (p : ℕ). leb p 255) ps)
 on_both size [] = refl
-on_both size (p ∷ ps) = rw (below_both size p, on_both size ps) (swap (ltb p size) (leb p 255) (on_board size ps) (every (λ (p : ℕ). leb p 255) ps))
+on_both size (p ∷ ps) = rw (below_both size p, on_both size ps) (swap (ltb p size) (leb p 255) (on_board size ps) (list_all (λ (p : ℕ). leb p 255) ps))
   where
     swap : (a b c d : Bool) → ((a && b) && (c && d)) ≡ ((a && c) && (b && d))
     swap true true c d = refl
@@ -63,7 +64,7 @@ spoils_test size j =
     let n = ltb_not 8 (length j.points) in
     let o = on_both size j.points in
     let a = admitted_test j in
-    let f = fails (leb 65 j.letter) (leb j.letter 90) (leb j.urgency 9) (leb (length j.points) 8) (every (λ (p : ℕ). leb p 255) j.points) (distinct j.points) (on_board size j.points) in
+    let f = fails (leb 65 j.letter) (leb j.letter 90) (leb j.urgency 9) (leb (length j.points) 8) (list_all (λ (p : ℕ). leb p 255) j.points) (distinct j.points) (on_board size j.points) in
     cc
 
 module _ (size : ℕ) (j : Job) where

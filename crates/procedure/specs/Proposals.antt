@@ -1,6 +1,7 @@
 -- What a procedure hands in, as plain values, and what spoils it.
 use Rattle.std.specs.Prelude.{◌≡◌, ℕ, min, Bool, not, ◌||◌, List, [], map, length, vec_items, nat_lt}
-use Rattle.fixed.specs.Lists.{some, distinct}
+use Rattle.std.specs.List.{list_any}
+use Rattle.fixed.specs.Lists.{distinct}
 use Rattle.board.specs.Points.{on_board}
 use Rattle.job.specs.Plain.{Job}
 use Rattle.job.specs.Records.{draft_of}
@@ -34,4 +35,4 @@ spoils size j =
 
 -- whether a proposal is spoilt
 abbrev pub spoilt : ℕ → Proposed → Bool
-spoilt size p = nat_lt 4 (length p.followups) || some (spoils size) p.followups
+spoilt size p = nat_lt 4 (length p.followups) || list_any (spoils size) p.followups

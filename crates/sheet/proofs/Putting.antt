@@ -3,11 +3,12 @@ use Rattle.std.proofs.Common.{◌≡◌, ℕ, ◌+◌, ◌<◌, ◌≤◌, false
 use Rattle.std.proofs.lemmas.List.{at_drop_more, at_drop_all}
 use Rattle.std.proofs.lemmas.Result.{MatchResult-at_ok, MatchResult-at_err}
 use Rattle.std.proofs.lemmas.Bool.{and_parts, eqb-true, leb-false, lt-ltb}
+use Rattle.std.specs.List.{list_all}
 use Rattle.job.specs.declared.fault.FieldFault.{FieldFault}
 use Rattle.wiring.specs.declared.fault.WireFault.{WireFault}
 use Rattle.wiring.specs.declared.wire.Wire.{Wire}
 use Rattle.job.specs.Admitted.{no_record}
-use Rattle.fixed.specs.Lists.{distinct, every}
+use Rattle.fixed.specs.Lists.{distinct}
 use Rattle.job.specs.Plain.{Job}
 use Rattle.fixed.specs.Results.{and_then, or_else, given}
 use Rattle.wiring.specs.Wires.{wired}
@@ -71,7 +72,7 @@ module _ (cs : List Column) (i : ℕ) (j : Job) (whole : Result Job LineFault) w
 
 -- ## The lines
 pub split_ok : (n : ℕ) (l : List ℕ) → Ok (tt {0}) ≡ and_then (split n l) (λ _. Ok (tt {0})) → (split n l ≡ Ok (all_of (cut 32 l))) × (length (all_of (cut 32 l)) ≡ n)
-split_ok n l h = by_bool (eqb (length (all_of (cut 32 l))) n && every (λ (t : List ℕ). not (empty t)) (all_of (cut 32 l)))
+split_ok n l h = by_bool (eqb (length (all_of (cut 32 l))) n && list_all (λ (t : List ℕ). not (empty t)) (all_of (cut 32 l)))
     (λ e. (rw e, eqb-true _ _ (and_parts _ _ e).0))
     (λ e. let k = rw e at h in absurd (let z : ◌≡◌ {A = ℕ} 0 1 = cc in omega arith))
 

@@ -5,9 +5,10 @@ use lib.ListN.{length-map}
 use Rattle.std.proofs.lemmas.Bool.{eqb-true, eqb-false, ne_eqb, and_parts, or_parts, ltb-true, lt-ltb, not-true}
 use Rattle.std.proofs.ByRecursion.{All-map}
 use Rattle.std.specs.List.{AllByRecursion}
+use Rattle.std.specs.List.{list_all}
 use Rattle.wiring.specs.declared.wire.Wire.{Wire}
 use Rattle.job.specs.Admitted.{no_record}
-use Rattle.fixed.specs.Lists.{every, has, distinct}
+use Rattle.fixed.specs.Lists.{has, distinct}
 use Rattle.job.specs.Plain.{Job}
 use Rattle.fixed.specs.Results.{or_else}
 use Rattle.wiring.specs.Wires.{leads_on, leaving, wired}
@@ -27,7 +28,7 @@ abbrev pub columns : List Column
 columns = Proc ∷ (Arg ∷ (Urg ∷ (Points ∷ [])))
 
 -- a test that passes at each of the four
-pub each_column : (f : Column → Bool) → every f columns ≡ true → (c : Column) → f c ≡ true
+pub each_column : (f : Column → Bool) → list_all f columns ≡ true → (c : Column) → f c ≡ true
 each_column f h c =
     let (p, h1) = and_parts (f Proc) _ h in
     let (a, h2) = and_parts (f Arg) _ h1 in
@@ -52,15 +53,15 @@ place_inj : (c d : Column) → place c ≡ place d → c ≡ d
 place_inj c d e = sym (unplace_place c) ∙ (ap unplace e ∙ unplace_place d)
 
 abbrev twice_or_all : List Column → Bool
-twice_or_all cs = not (distinct (map place cs)) || every (λ e. has (map place cs) (place e)) columns
+twice_or_all cs = not (distinct (map place cs)) || list_all (λ e. has (map place cs) (place e)) columns
 
 -- tried at every list of four
 four_all : (a b c d : Column) → twice_or_all (a ∷ (b ∷ (c ∷ (d ∷ [])))) ≡ true
 four_all a b c d =
     each_column (λ d. twice_or_all (a ∷ (b ∷ (c ∷ (d ∷ [])))))
-    (each_column (λ c. every (λ d. twice_or_all (a ∷ (b ∷ (c ∷ (d ∷ []))))) columns)
-    (each_column (λ b. every (λ c. every (λ d. twice_or_all (a ∷ (b ∷ (c ∷ (d ∷ []))))) columns) columns)
-    (each_column (λ a. every (λ b. every (λ c. every (λ d. twice_or_all (a ∷ (b ∷ (c ∷ (d ∷ []))))) columns) columns) columns) refl a) b) c) d
+    (each_column (λ c. list_all (λ d. twice_or_all (a ∷ (b ∷ (c ∷ (d ∷ []))))) columns)
+    (each_column (λ b. list_all (λ c. list_all (λ d. twice_or_all (a ∷ (b ∷ (c ∷ (d ∷ []))))) columns) columns)
+    (each_column (λ a. list_all (λ b. list_all (λ c. list_all (λ d. twice_or_all (a ∷ (b ∷ (c ∷ (d ∷ []))))) columns) columns) columns) refl a) b) c) d
 
 -- each column stands in an order, and once
 pub record Order (cs : List Column) : Type 0 where
@@ -74,7 +75,7 @@ order_from cs h =
     let long = eqb-true (length cs) 4 n in
     record { long = long; once = once; all = each_column _ (go cs long once) }
   where
-    go : (cs : List Column) → length cs ≡ 4 → distinct (map place cs) ≡ true → every (λ e. has (map place cs) (place e)) columns ≡ true
+    go : (cs : List Column) → length cs ≡ 4 → distinct (map place cs) ≡ true → list_all (λ e. has (map place cs) (place e)) columns ≡ true
     go [] l d = absurd (omega arith)
     go (a ∷ []) l d = absurd (omega arith)
     go (a ∷ (b ∷ [])) l d = absurd (omega arith)
@@ -83,7 +84,7 @@ order_from cs h =
     go (a ∷ (b ∷ (c ∷ (d ∷ [])))) l o = rw o at (four_all a b c d)
 
 -- ## The line of names
-free_name : (d : ℕ) → every (λ c. not (has (name c) d)) columns ≡ true → (c : Column) → Free d (name c)
+free_name : (d : ℕ) → list_all (λ c. not (has (name c) d)) columns ≡ true → (c : Column) → Free d (name c)
 free_name d h c = free_lacks d (name c) (not-true _ (each_column (λ c. not (has (name c) d)) h c))
 
 pub free_names : (cs : List Column) → Free 10 (names_text cs)
@@ -225,7 +226,7 @@ fields_read (c ∷ cs) n j i f =
 -- ## The texts of a line of values
 pub split_back : (n : ℕ) (l : List ℕ) (ts : List (List ℕ)) → split n l ≡ Ok ts → (all_of (cut 32 l) ≡ ts) × (length ts ≡ n)
 split_back n l ts h =
-    let (s, q) = ok_given (eqb (length (all_of (cut 32 l))) n && every (λ t. not (empty t)) (all_of (cut 32 l))) _ _ ts h in
+    let (s, q) = ok_given (eqb (length (all_of (cut 32 l))) n && list_all (λ t. not (empty t)) (all_of (cut 32 l))) _ _ ts h in
     let e : all_of (cut 32 l) ≡ ts = same_ok q in
     (e, rw e at (eqb-true (length (all_of (cut 32 l))) n (and_parts _ _ s).0))
 
@@ -271,7 +272,7 @@ some_text Arg [] i k h = err_not_ok h
 some_text Urg [] i k h = err_not_ok h
 some_text Points [] i k h = err_not_ok h
 
-some_texts : (j : Job) → ((d : Column) → Fits d j) → (cs : List Column) → every (λ t. not (empty t)) (map (text j) cs) ≡ true
+some_texts : (j : Job) → ((d : Column) → Fits d j) → (cs : List Column) → list_all (λ t. not (empty t)) (map (text j) cs) ≡ true
 some_texts j f [] = refl
 some_texts j f (c ∷ cs) = let (k, p, T) = put_reads c j j (f c) in rw (some_text c (text j c) j k p) (some_texts j f cs)
 

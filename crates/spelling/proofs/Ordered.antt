@@ -5,11 +5,12 @@ use lib.ListN.{length-map}
 use Rattle.std.proofs.lemmas.Bool.{and_parts, eqb-true, not-true}
 use Rattle.std.specs.Str.{all_ascii_digits}
 use Rattle.std.specs.Str.Parse.{digits_value}
+use Rattle.std.specs.List.{list_all, list_any}
 use Rattle.job.specs.declared.fault.FieldFault.{FieldFault}
 use Rattle.job.specs.declared.fault.FieldFault.TheVariants.{TooManyPoints}
 use Rattle.wiring.specs.declared.wire.Wire.{Wire}
 use Rattle.job.specs.Admitted.{no_record}
-use Rattle.fixed.specs.Lists.{every, some, has, distinct}
+use Rattle.fixed.specs.Lists.{has, distinct}
 use Rattle.job.specs.Plain.{Job}
 use Rattle.fixed.specs.Results.{and_then, or_else, given}
 use Rattle.wiring.specs.Wires.{leaving, wired}
@@ -146,9 +147,9 @@ column_agrees t = by_bool (same t (name Proc)) (λ e. rw e)
     (λ f. by_bool (same t (name Urg)) (λ g. rw (e, f, g))
     (λ g. by_bool (same t (name Points)) (λ i. rw (e, f, g, i)) (λ i. rw (e, f, g, i)))))
 
-columns_agree : (ts : List (List ℕ)) → Agrees (each column ts) (must (every is_name ts) JobNames ∷ [])
+columns_agree : (ts : List (List ℕ)) → Agrees (each column ts) (must (list_all is_name ts) JobNames ∷ [])
 columns_agree [] = refl
-columns_agree (t ∷ ts) = go (column t) (each column ts) (is_name t) (every is_name ts) (column_agrees t) (columns_agree ts)
+columns_agree (t ∷ ts) = go (column t) (each column ts) (is_name t) (list_all is_name ts) (column_agrees t) (columns_agree ts)
   where
     go : (r : Result Column LineFault) (s : Result (List Column) LineFault) (a b : Bool) → Agrees r (must a JobNames ∷ []) → Agrees s (must b JobNames ∷ []) → Agrees (and_then r (λ y. and_then s (λ ys. Ok (y ∷ ys)))) (must (a && b) JobNames ∷ [])
     go (Ok y) (Ok ys) true b h k = k
@@ -168,9 +169,9 @@ alike_true false b h = sym (not-true b h)
 names_apart : (c d : Column) → same (name c) (name d) ≡ eqb (place d) (place c)
 names_apart c d =
     alike_true _ _ (each_column (λ d. alike (same (name c) (name d)) (eqb (place d) (place c)))
-    (each_column (λ c. every (λ d. alike (same (name c) (name d)) (eqb (place d) (place c))) columns) refl c) d)
+    (each_column (λ c. list_all (λ d. alike (same (name c) (name d)) (eqb (place d) (place c))) columns) refl c) d)
 
-some_names : (c : Column) (cs : List Column) → some (λ u. same (name c) u) (map name cs) ≡ has (map place cs) (place c)
+some_names : (c : Column) (cs : List Column) → list_any (λ u. same (name c) u) (map name cs) ≡ has (map place cs) (place c)
 some_names c [] = refl
 some_names c (d ∷ cs) = rw (names_apart c d, some_names c cs)
 
@@ -182,7 +183,7 @@ order_of_texts : (ts : List (List ℕ)) (cs : List Column) → each column ts �
 order_of_texts ts cs h = rw (← each_back column name column_back ts cs h, length-map cs name, differ_names cs)
 
 pub names_agree : (l : List ℕ) → Agrees (names l) (names_checks l)
-names_agree l = go (each column ts) (eqb (length ts) 4) (every is_name ts) (differ ts) (columns_agree ts) (order_of_texts ts)
+names_agree l = go (each column ts) (eqb (length ts) 4) (list_all is_name ts) (differ ts) (columns_agree ts) (order_of_texts ts)
   where
     ts : List (List ℕ)
     ts = all_of (cut 32 l)
@@ -201,7 +202,7 @@ names_agree l = go (each column ts) (eqb (length ts) 4) (every is_name ts) (diff
 pub job_line_agrees : (cs : List Column) (before : List Job) (l : List ℕ) → order_of_four cs ≡ true → Agrees (job_line cs before l) (job_checks cs before l)
 job_line_agrees cs before l o =
     agrees_given (ltb (length before) 64) TooManyJobs _ _ (λ _.
-    agrees_given_then (eqb (length ts) 4 && every (λ t. not (empty t)) ts) (FieldCount 4) ts _ _ (λ s.
+    agrees_given_then (eqb (length ts) 4 && list_all (λ t. not (empty t)) ts) (FieldCount 4) ts _ _ (λ s.
     agrees_then (fields cs ts 1 no_record) _ (fields_checks cs 1 ts) _ (fields_agree cs ts 1 no_record) (ends (eqb-true _ _ (and_parts _ _ s).0))))
   where
     ts : List (List ℕ)
@@ -229,7 +230,7 @@ wire_fields_agree before (a ∷ (b ∷ (c ∷ ts))) r n =
 pub wire_line_agrees : (before : List Wire) (l : List ℕ) → Agrees (wire_line before l) (wire_checks before l)
 wire_line_agrees before l =
     agrees_given (ltb (length before) 256) TooManyWires _ _ (λ r.
-    agrees_given_then (eqb (length ts) 3 && every (λ t. not (empty t)) ts) (FieldCount 3) ts _ _ (λ s.
+    agrees_given_then (eqb (length ts) 3 && list_all (λ t. not (empty t)) ts) (FieldCount 3) ts _ _ (λ s.
     wire_fields_agree before ts r (eqb-true _ _ (and_parts _ _ s).0)))
   where
     ts : List (List ℕ)

@@ -2,9 +2,10 @@
 use Rattle.std.specs.Prelude.{ℕ, ◌+◌, Bool, true, false, cond, not, ◌&&◌, ◌||◌, List, [], ◌∷◌, ◌++◌, map, length, Some, None, Option, ◌==◌, nat_le, nat_lt}
 use Rattle.std.specs.Str.{all_ascii_digits}
 use Rattle.std.specs.Str.Parse.{digits_value}
+use Rattle.std.specs.List.{list_all, list_any}
 use Rattle.job.specs.declared.fault.FieldFault.TheVariants.{NoNumber, AboveRange, UnknownLetter, TooManyPoints}
 use Rattle.wiring.specs.declared.wire.Wire.{Wire}
-use Rattle.fixed.specs.Lists.{every, some, distinct}
+use Rattle.fixed.specs.Lists.{distinct}
 use Rattle.job.specs.Plain.{Job}
 use Rattle.wiring.specs.Wires.{leaving}
 use Rattle.spelling.specs.declared.column.Column.{Column}
@@ -63,7 +64,7 @@ once_each (c ∷ cs) (t ∷ ts) = once_in c t && once_each cs ts
 -- ## Lines
 -- the wanted number of fields, none of them empty
 abbrev pub shape_check : ℕ → List (List ℕ) → Check
-shape_check n ts = must (length ts == n && every (λ t. not (empty t)) ts) (FieldCount n)
+shape_check n ts = must (length ts == n && list_all (λ t. not (empty t)) ts) (FieldCount n)
 
 abbrev pub is_name : List ℕ → Bool
 is_name t = same t (name Proc) || (same t (name Arg) || (same t (name Urg) || same t (name Points)))
@@ -71,10 +72,10 @@ is_name t = same t (name Proc) || (same t (name Arg) || (same t (name Urg) || sa
 -- whether no text stands twice
 abbrev pub differ : List (List ℕ) → Bool
 differ [] = true
-differ (t ∷ ts) = not (some (λ u. same t u) ts) && differ ts
+differ (t ∷ ts) = not (list_any (λ u. same t u) ts) && differ ts
 
 abbrev pub names_checks : List ℕ → List Check
-names_checks l = let ts = all_of (cut 32 l) in must (length ts == 4) JobNames ∷ (must (every is_name ts) JobNames ∷ (must (differ ts) JobNames ∷ []))
+names_checks l = let ts = all_of (cut 32 l) in must (length ts == 4) JobNames ∷ (must (list_all is_name ts) JobNames ∷ (must (differ ts) JobNames ∷ []))
 
 abbrev pub job_checks : List Column → List Job → List ℕ → List Check
 job_checks order before l = let ts = all_of (cut 32 l) in

@@ -1,9 +1,10 @@
 -- Lines: the names of the columns, a job, a wire.
 use Rattle.std.specs.Prelude.{ℕ, ◌+◌, Bool, cond, not, ◌&&◌, List, [], ◌∷◌, map, length, Ok, Err, codes, Result, ◌==◌, nat_lt}
+use Rattle.std.specs.List.{list_all}
 use Rattle.job.specs.declared.fault.FieldFault.{FieldFault}
 use Rattle.wiring.specs.declared.wire.Wire.{Wire}
 use Rattle.job.specs.Admitted.{no_record}
-use Rattle.fixed.specs.Lists.{every, distinct}
+use Rattle.fixed.specs.Lists.{distinct}
 use Rattle.job.specs.Plain.{Job}
 use Rattle.fixed.specs.Results.{and_then, or_else, given}
 use Rattle.wiring.specs.Wires.{wired}
@@ -45,7 +46,7 @@ names l = and_then (each column (all_of (cut 32 l))) (λ cs. given (order_of_fou
 -- ## The fields of a line of values
 -- the fields, if they are as many as wanted and none is empty
 abbrev pub split : ℕ → List ℕ → Result (List (List ℕ)) LineFault
-split n l = let ts = all_of (cut 32 l) in given (length ts == n && every (λ t. not (empty t)) ts) (FieldCount n) (Ok ts)
+split n l = let ts = all_of (cut 32 l) in given (length ts == n && list_all (λ t. not (empty t)) ts) (FieldCount n) (Ok ts)
 
 -- a job with what the field of one column says
 abbrev pub put : Column → List ℕ → Job → Result Job FieldFault

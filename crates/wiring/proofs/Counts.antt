@@ -5,9 +5,9 @@ use Rattle.std.proofs.lemmas.List.{get_or-set_same, get_or-set_other}
 use Rattle.std.proofs.lemmas.List.Sums.{sum_by_push}
 use Rattle.std.proofs.lemmas.Bool.{eq-eqb, ne_eqb, eqb-true, eqb-false, leb-true, leb-false, le-leb, lt-ltb, le-ltb}
 use Rattle.std.specs.List.{range_with_len}
+use Rattle.std.specs.List.{list_all}
 use Rattle.wiring.specs.declared.fault.WireFault.TheVariants.{TableFull, ToItself, FifthFromPoint}
 use Rattle.wiring.specs.declared.wire.Wire.{Wire}
-use Rattle.fixed.specs.Lists.{every}
 use Rattle.wiring.specs.Wires.{leads_on, leaving, tally, wired}
 use Rattle.fixed.proofs.Pushing.{by_bool}
 use Rattle.fixed.proofs.Scans.{every_push, every_set}
@@ -69,10 +69,10 @@ module _ (ws : List Wire) (w : Wire) (cs : List ℕ) where
   pub counted_push : tally ws ≡ cs → w.from < 256 → tally (ws ++ w ∷ []) ≡ set cs w.from (get_or cs w.from 0 + 1)
   counted_push e h = tally_push ws w h ∙ ap (λ (l : List ℕ). set l w.from (get_or l w.from 0 + 1)) e
 
-  pub onward_push : every leads_on ws ≡ true → (w.from ≡ w.to → ⊥) → every leads_on (ws ++ w ∷ []) ≡ true
+  pub onward_push : list_all leads_on ws ≡ true → (w.from ≡ w.to → ⊥) → list_all leads_on (ws ++ w ∷ []) ≡ true
   onward_push h n = every_push leads_on ws w h (rw (ne_eqb w.from w.to n))
 
-  pub four_push : every (λ (n : ℕ). leb n 4) cs ≡ true → get_or cs w.from 0 < 4 → every (λ (n : ℕ). leb n 4) (set cs w.from (get_or cs w.from 0 + 1)) ≡ true
+  pub four_push : list_all (λ (n : ℕ). leb n 4) cs ≡ true → get_or cs w.from 0 < 4 → list_all (λ (n : ℕ). leb n 4) (set cs w.from (get_or cs w.from 0 + 1)) ≡ true
   four_push h k = every_set (λ (n : ℕ). leb n 4) cs w.from _ h (le-leb _ _ (omega arith))
 
 -- a table without wires
@@ -80,5 +80,5 @@ pub none_counted : (ws : List Wire) → ws ≡ [] → tally ws ≡ replicate 256
 unfolding tally
 none_counted ws e = ap tally e
 
-pub none_onward : (ws : List Wire) → ws ≡ [] → every leads_on ws ≡ true
+pub none_onward : (ws : List Wire) → ws ≡ [] → list_all leads_on ws ≡ true
 none_onward ws e = rw e

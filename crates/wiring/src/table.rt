@@ -1,6 +1,6 @@
 ghost use Rattle.std.specs.Prelude.{◌≡◌, true, nat_le};
+ghost use Rattle.std.specs.List.{list_all};
 ghost use Rattle.fixed.specs.Fixed.{list_of};
-ghost use Rattle.fixed.specs.Lists.{every};
 ghost use Rattle.wiring.specs.Wires.{leads_on, tally};
 
 use crate::wire::Wire;
@@ -15,6 +15,6 @@ pub struct WireTable {
     // how many wires lead from each point, so that a fifth is seen at once
     leaving: [u8; 256],
     ghost counted: { tally (list_of wires) ≡ leaving },
-    ghost onward: { every leads_on (list_of wires) ≡ true },
-    ghost four: { every (λ n. nat_le n 4) leaving ≡ true },
+    ghost onward: { list_all leads_on (list_of wires) ≡ true },
+    ghost four: { list_all (λ n. nat_le n 4) leaving ≡ true },
 }

@@ -1,8 +1,8 @@
 use Rattle.std.proofs.Common.{◌<◌, ◌≤◌, List, map, length, vec_items, sym, refl, ap, ◌∙◌, arith}
 use Rattle.std.proofs.lemmas.List.{length-map}
 use Rattle.std.proofs.lemmas.Bool.{lt-ltb, le-ltb, or_left, or_right, or_from}
+use Rattle.std.specs.List.{list_any}
 use Rattle.fixed.specs.Fixed.{list_of}
-use Rattle.fixed.specs.Lists.{some}
 use Rattle.fixed.proofs.Pushing.{pushed_room}
 use Rattle.job.specs.Records.{job_of, draft_of}
 use Rattle.job.specs.declared.draft.JobDraft.{JobDraft}
@@ -24,7 +24,7 @@ pub returns-in_default : goal.returns-in_default
 returns-in_default c =
     let s = spoils c.args.size in
     let f = caught draft_of s c.as_slice-draft-items.result.now c.loop-draft.draft-index c.draft-item.result c.loop-draft-test.true c.draft-item.is c.in_default.ensures in
-    or_right _ _ (ap (λ (l : List JobDraft). some s (map draft_of l)) (sym c.as_slice-draft-items.ensures.value) ∙ (c.loop-draft.invariant.1 ∙ f))
+    or_right _ _ (ap (λ (l : List JobDraft). list_any s (map draft_of l)) (sym c.as_slice-draft-items.ensures.value) ∙ (c.loop-draft.invariant.1 ∙ f))
 
 pub loop-draft-preserved : goal.loop-draft-preserved
 loop-draft-preserved c =
@@ -51,6 +51,6 @@ returns c =
     let n = length-map (vec_items c.args.self.now.follow_ups) draft_of in
     let k = c.args.self.now.follow_ups.ok.0 in
     let few : length (map draft_of (vec_items c.args.self.now.follow_ups)) ≤ 4 = omega arith in (
-      or_from _ _ (le-ltb 4 _ few) (ap (λ (l : List JobDraft). some s (map draft_of l)) (sym v) ∙ (c.loop-draft.invariant.1 ∙ none_left draft_of s items i c.loop-draft-test.false)),
+      or_from _ _ (le-ltb 4 _ few) (ap (λ (l : List JobDraft). list_any s (map draft_of l)) (sym v) ∙ (c.loop-draft.invariant.1 ∙ none_left draft_of s items i c.loop-draft-test.false)),
       turned_all job_of draft_of items i (list_of c.loop-draft.jobs) c.loop-draft.invariant.0 c.loop-draft-test.false ∙ ap (map draft_of) v,
     )

@@ -1,7 +1,7 @@
 use Rattle.std.proofs.Common.{◌≡◌, true, sym, refl, ap, ◌∙◌, rules}
 use Rattle.std.proofs.lemmas.Bool.{leb-false}
+use Rattle.std.specs.List.{list_all}
 use Rattle.fixed.specs.Fixed.{list_of}
-use Rattle.fixed.specs.Lists.{every}
 use Rattle.wiring.specs.Wires.{leads_on, tally}
 use Rattle.fixed.proofs.Pushing.{pushed_room}
 use Rattle.wiring.proofs.Counts.{wired_full, wired_itself, wired_fifth, wired_well, counted_push, onward_push, four_push}
@@ -22,7 +22,7 @@ invariant_of-self c =
     let ws = list_of c.args.self.now.wires in
     let w = c.args.wire in
     let e = pushed_room 256 (λ y. y) ws w c.push.result (list_of c.push.new.self) (leb-false _ _ (sym c.if-is_full.ensures)) c.push.ensures in
-    let o : every leads_on (list_of c.push.new.self) ≡ true = rw e (onward_push ws w c.args.self.now.leaving c.args.self.now.onward c.if-wire.false) in
+    let o : list_all leads_on (list_of c.push.new.self) ≡ true = rw e (onward_push ws w c.args.self.now.leaving c.args.self.now.onward c.if-wire.false) in
     record {
       counted = ap tally e ∙ counted_push ws w c.args.self.now.leaving c.args.self.now.counted (search rules);
       onward = o;
