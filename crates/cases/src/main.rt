@@ -1,7 +1,7 @@
 // Checks the stored sheets and prints what is said of each, to be compared with the known answers.
 #![tactic(auto)]
 
-use anyhow::anyhow;
+use anyhow::Context;
 use listing::check::check;
 use listing::text::{refusal_text, report_text};
 use std::alloc::Global;
@@ -14,10 +14,10 @@ const SHEETS: u32 = 80;
 fn answer(bytes: &[u8], heap: Global) -> anyhow::Result<String> {
     match check(bytes, heap) {
         Ok(report) => Ok(report_text(&report, heap)?),
-        Err(fault) => match fault.refusal() {
-            Some(refusal) => Ok(refusal_text(refusal, heap)?),
-            None => Err(anyhow!("no memory is left for the answer")),
-        },
+        Err(fault) => {
+            let refusal = fault.refusal().context("no memory is left for the answer")?;
+            Ok(refusal_text(refusal, heap)?)
+        }
     }
 }
 

@@ -8,45 +8,25 @@ use std::alloc::AllocError;
 use std::fs::File;
 use std::io::Read;
 use std::process::ExitCode;
-use std::{env, fmt, io};
-
-// What was said of the sheet; a refused one ends the program with status 1.
-enum Verdict {
-    Accepted,
-    Refused,
-}
+use std::{env, io};
+use thiserror::Error;
 
 // Why nothing can be said of a sheet.
-#[derive(Drop)]
+#[derive(Debug, Drop, Error)]
 enum Failure {
     // the file that is named here cannot be read
+    #[error("{0}: {1}")]
     File(String, io::Error),
+    #[error("more than one argument: name one file, or none for standard input")]
     TooManyArguments,
-    Stream(io::Error),
+    #[error("{0}")]
+    Stream(#[from] io::Error),
 }
 
-impl From<io::Error> for Failure {
-    fn from(error: io::Error) -> Failure {
-        Failure::Stream(error)
-    }
-}
-
+// Want of memory is told as a stream tells it.
 impl From<AllocError> for Failure {
     fn from(error: AllocError) -> Failure {
         Failure::Stream(error.into())
-    }
-}
-
-impl fmt::Display for Failure {
-    fn fmt<W: fmt::Write>(&self, f: &mut fmt::Formatter<W>) -> fmt::Result {
-        match self {
-            Failure::File(path, error) => write!(f, "{path}: {error}"),
-            Failure::TooManyArguments => write!(
-                f,
-                "more than one argument: name one file, or none for standard input"
-            ),
-            Failure::Stream(error) => write!(f, "{error}"),
-        }
     }
 }
 
@@ -60,14 +40,8 @@ fn bounded(input: impl Read + Drop, rt: &HostRuntime) -> io::Result<Vec<u8>> {
 
 // The bytes of a file; a file that cannot be read is named in the error.
 fn named(rt: &HostRuntime, path: String) -> Result<Vec<u8>, Failure> {
-    let read = match File::open(rt, path.as_str()) {
-        Ok(file) => bounded(file, rt),
-        Err(error) => Err(error),
-    };
-    match read {
-        Ok(bytes) => Ok(bytes),
-        Err(error) => Err(Failure::File(path, error)),
-    }
+    let read = File::open(rt, path.as_str()).and_then(|file| bounded(file, rt));
+    read.map_err(|error| Failure::File(path, error))
 }
 
 // The bytes of the sheet that the arguments name.
@@ -85,20 +59,21 @@ fn input(rt: &HostRuntime) -> Result<Vec<u8>, Failure> {
 }
 
 // Prints the refusal as a listing, and for people what is wrong.
-fn refuse(rt: &HostRuntime, fault: CheckFault) -> Result<Verdict, Failure> {
+fn refuse(rt: &HostRuntime, fault: CheckFault) -> Result<ExitCode, Failure> {
     if let Some(refusal) = fault.refusal() {
         rt.print(refusal_text(refusal, rt.alloc())?)?;
     }
     rt.eprintln(fault)?;
-    Ok(Verdict::Refused)
+    Ok(ExitCode::FAILURE)
 }
 
-fn run(rt: &HostRuntime) -> Result<Verdict, Failure> {
+// What is said of the sheet; a refused one ends the program with status 1.
+fn run(rt: &HostRuntime) -> Result<ExitCode, Failure> {
     let bytes = input(rt)?;
     match check(bytes.as_slice(), rt.alloc()) {
         Ok(report) => {
             rt.print(report_text(&report, rt.alloc())?)?;
-            Ok(Verdict::Accepted)
+            Ok(ExitCode::SUCCESS)
         }
         Err(fault) => refuse(rt, fault),
     }
@@ -106,8 +81,7 @@ fn run(rt: &HostRuntime) -> Result<Verdict, Failure> {
 
 fn main(rt: HostRuntime) -> ExitCode {
     match run(&rt) {
-        Ok(Verdict::Accepted) => ExitCode::SUCCESS,
-        Ok(Verdict::Refused) => ExitCode::FAILURE,
+        Ok(status) => status,
         Err(error) => {
             let _ = eprintln!(rt; "checksheet: {error}");
             ExitCode::FAILURE

@@ -1,6 +1,6 @@
 -- The rows of a report, one by one.
-use Rattle.std.proofs.Common.{◌≡◌, ℕ, ◌+◌, ◌<◌, ◌≤◌, List, [], ◌∷◌, ◌++◌, length, get_or, take, drop, None, Option, sym, ap, ◌∙◌, subst, append_assoc, append-nil, arith, below_more}
-use Rattle.std.proofs.lemmas.List.{get_or_append_left, get_or_push, length_push, take_more, at_drop_more, at_drop_all}
+use Rattle.std.proofs.Common.{◌≡◌, ℕ, ◌+◌, ◌<◌, List, [], ◌∷◌, ◌++◌, length, get_or, take, drop, None, Option, sym, ap, ◌∙◌, subst, append_assoc, arith, below_more}
+use Rattle.std.proofs.lemmas.List.{get_or_append_left, get_or_push, length_push, take_more, at_drop_more}
 use Rattle.job.specs.Admitted.{no_record}
 use Rattle.job.specs.Plain.{Job}
 use Rattle.job.specs.Preview.{job_at, HighestClash}
@@ -29,9 +29,6 @@ text_more rows i was now line whole h e l k =
     ∙ (append_assoc was line (rows_text (i + 1 + 1) (drop (i + 1) rows))
     ∙ (ap (λ (t : List ℕ). was ++ (t ++ rows_text (i + 1 + 1) (drop (i + 1) rows))) l
     ∙ (ap (λ (t : List ℕ). was ++ t) (sym (at_drop_more (rows_text (i + 1)) rows i None h)) ∙ k)))
-
-pub text_all : (rows : List (Option ℕ)) (i : ℕ) (was whole : List ℕ) → length rows ≤ i → was ++ rows_text (i + 1) (drop i rows) ≡ whole → was ≡ whole
-text_all rows i was whole h k = sym (ap (λ (t : List ℕ). was ++ t) (at_drop_all (rows_text (i + 1)) rows i h) ∙ append-nil was) ∙ k
 
 -- ## The jobs before one
 pub earlier_more : (js es es' : List Job) (i : ℕ) (j : Job) → i < length js → es ≡ take i js → es' ≡ es ++ (j ∷ []) → job_at js i ≡ j → es' ≡ take (i + 1) js

@@ -24,13 +24,11 @@ fn clashes(jobs: &JobTable, heap: Global) -> Result<FixedList<Option<usize>, 64>
     let mut rows = FixedList::new(None);
     for job in jobs.records() {
         let draft = job.draft(heap)?;
-        match preview(&earlier, &draft, &mut marks) {
-            Ok(clash) => {
-                let _ = rows.push(clash);
-            }
-            // a record is admitted, and there are 256 marks
-            Err(_) => unreachable(),
-        }
+        // a record is admitted, and there are 256 marks
+        let Ok(clash) = preview(&earlier, &draft, &mut marks) else {
+            unreachable!()
+        };
+        let _ = rows.push(clash);
         let _ = earlier.push(*job);
     }
     Ok(rows)

@@ -2,21 +2,26 @@ ghost use Rattle.std.specs.Prelude.{◌≡◌, Some, None};
 ghost use Rattle.listing.specs.Refusals.{check_refusal};
 ghost use Rattle.listing.specs.declared.fault.CheckFault.TheVariants.{Sheet, NoMemory};
 
+use crate::check::MOST_BYTES;
 use job::refusal::Refusal;
 use spelling::fault::SheetFault;
 use std::alloc::AllocError;
-use std::fmt;
+use thiserror::Error;
 
 // Why a sheet has no report.
-#[derive(Clone, Copy, PartialEq, Eq, Debug)]
+#[derive(Clone, Copy, PartialEq, Eq, Debug, Error)]
 pub enum CheckFault {
     // more bytes than a sheet may have
+    #[error("The sheet is too long: at most {most} bytes are allowed.", most = MOST_BYTES)]
     TooLong,
+    #[error("{0}")]
     Sheet(SheetFault),
     // no memory was left for the answer; this is no fault of the sheet
+    #[error("No memory is left for the answer.")]
     NoMemory,
 }
 
+// Both by hand, since a derived `From` does not say which fault it gives.
 impl From<SheetFault> for CheckFault {
     ghost from_gives = { λ e r. r ≡ Sheet e };
 
@@ -34,27 +39,14 @@ impl From<AllocError> for CheckFault {
 }
 
 impl CheckFault {
-    // The numbers by which it is reported; want of memory has none.
+    // The numbers by which it is reported; want of memory has none, so this is no `From`.
     pub fn refusal(self) -> Option<Refusal>
         ensures { result ≡ check_refusal self }
     {
         match self {
             CheckFault::TooLong => Some(Refusal::at_line(13, 0)),
-            CheckFault::Sheet(fault) => Some(fault.refusal()),
+            CheckFault::Sheet(fault) => Some(Refusal::from(fault)),
             CheckFault::NoMemory => None,
-        }
-    }
-}
-
-impl fmt::Display for CheckFault {
-    fn fmt<W: fmt::Write>(&self, f: &mut fmt::Formatter<W>) -> fmt::Result {
-        match *self {
-            CheckFault::TooLong => write!(
-                f,
-                "The sheet is too long: at most 16384 bytes are allowed."
-            ),
-            CheckFault::Sheet(fault) => write!(f, "{fault}"),
-            CheckFault::NoMemory => write!(f, "No memory is left for the answer."),
         }
     }
 }

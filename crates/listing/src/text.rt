@@ -1,18 +1,44 @@
-ghost use Rattle.std.specs.Prelude.{◌≡◌, IfOk, string_bytes};
+ghost use Rattle.std.specs.Prelude.{◌≡◌, IfOk, Some, string_bytes};
 ghost use Rattle.fixed.specs.Fixed.{list_of};
 ghost use Rattle.listing.specs.Texts.{row_text, report_text, refusal_text};
 
 use crate::report::Report;
 use job::refusal::Refusal;
 use std::alloc::{AllocError, Global};
+use std::fmt;
 
-// A job's number and the job that it clashes with.
-fn row(number: usize, clash: Option<usize>, heap: Global) -> Result<String, AllocError>
-    ensures { IfOk result (λ s. string_bytes s ≡ row_text number clash) }
-{
-    match clash {
-        Some(other) => format!(in heap; "{number} {other}\n"),
-        None => format!(in heap; "{number} -\n"),
+// A job's number, and the job that it clashes with.
+#[derive(Clone, Copy)]
+struct Row {
+    number: usize,
+    clash: Option<usize>,
+}
+
+impl fmt::Display for Row {
+    ghost output = { λ r. Some (row_text r.number r.clash) };
+
+    fn fmt<W: fmt::Write>(&self, f: &mut fmt::Formatter<W>) -> fmt::Result {
+        let number = self.number;
+        match self.clash {
+            Some(other) => writeln!(f, "{number} {other}"),
+            None => writeln!(f, "{number} -"),
+        }
+    }
+}
+
+impl fmt::Display for Report {
+    ghost output = { λ r. Some (report_text (list_of r.clashes)) };
+
+    fn fmt<W: fmt::Write>(&self, f: &mut fmt::Formatter<W>) -> fmt::Result {
+        f.write_str("job clash\n")?;
+        for (i, clash) in self.clashes.as_slice().iter().enumerate() {
+            let row = Row {
+                number: i + 1,
+                clash: *clash,
+            };
+            write!(f, "{row}")?;
+        }
+        Ok(())
     }
 }
 
@@ -20,12 +46,7 @@ fn row(number: usize, clash: Option<usize>, heap: Global) -> Result<String, Allo
 pub fn report_text(report: &Report, heap: Global) -> Result<String, AllocError>
     ensures { IfOk result (λ s. string_bytes s ≡ report_text (list_of report.now.clashes)) }
 {
-    let mut text = String::from_str(heap, "job clash\n")?;
-    for (i, clash) in report.clashes.as_slice().iter().enumerate() {
-        let line = row(i + 1, *clash, heap)?;
-        text.push_str(line.as_str())?;
-    }
-    Ok(text)
+    format!(in heap; "{report}")
 }
 
 // The listing of a refused sheet.

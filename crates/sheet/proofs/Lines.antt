@@ -20,7 +20,7 @@ added (Err e) was is h = absurd h
 
 taken : {T E : Type 0} (k : ℕ) (a : Result T E) (was is : List T) (r : Result (Unit {0}) E) → Ok (tt {0}) ≡ placed k r → Takes a was r is → (x : T) × (a ≡ Ok x) × (is ≡ was ++ (x ∷ []))
 taken k a was is (Ok u) h t = added a was is t
-taken k a was is (Err e) h t = absurd (let z : ◌≡◌ {A = ℕ} 0 1 = cc in omega arith)
+taken k a was is (Err e) h t = absurd cc
 
 -- what is left by one reading is left by another that reads the same
 pub leaves_same : (a b : Result Tables SheetFault) (r : Result (Unit {0}) SheetFault) (js : List Job) (ws : List Wire) → a ≡ b → Leaves a r js ws → Leaves b r js ws

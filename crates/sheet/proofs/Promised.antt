@@ -17,6 +17,6 @@ first_fault bytes (AtLine n f) h = ((refused_at_first_fault bytes n f).0 h).1
 
 pub refused : (bytes : List ℕ) (e : SheetFault) → read bytes ≡ Err e → ((t : Tables) → Within t → Spelled bytes t → ⊥) × FirstFault bytes e
 refused bytes e h = (
-  (λ t w s. let k = (accepted_exactly_spelled bytes t).1 (w, s) in absurd (let z : ◌≡◌ {A = ℕ} 0 1 = cc in omega arith)),
+  (λ t w s. let k = (accepted_exactly_spelled bytes t).1 (w, s) in absurd cc),
   first_fault bytes e h,
 )

@@ -28,7 +28,7 @@ use Rattle.sheet.specs.Values.{Puts}
 
 -- two steps that a refused one keeps from being taken
 same_refusal : {A B C E : Type 0} (r : Result A E) (g : A → B) (h : A → C) (e : E) → Err e ≡ and_then r (λ x. Ok (g x)) → and_then r (λ x. Ok (h x)) ≡ Err e
-same_refusal (Ok x) g h e p = absurd (let z : ◌≡◌ {A = ℕ} 0 1 = cc in omega arith)
+same_refusal (Ok x) g h e p = absurd cc
 same_refusal (Err f) g h e p = let z : f ≡ e = cc in rw z
 
 pub put_refused : (c : Column) (t : List ℕ) (at : ℕ) (j : Job) (e : FieldFault) → Reads c t at (Err e) → put c t j ≡ Err e
@@ -47,10 +47,10 @@ put_err c t was is r f e h = (MatchResult-at_err (λ _. put c t was ≡ Ok is) (
 -- ## A fault with its place
 pub placed_ok : {T E : Type 0} (k : ℕ) (r : Result T E) (x : T) → Ok x ≡ placed k r → r ≡ Ok x
 placed_ok k (Ok y) x h = cc
-placed_ok k (Err e) x h = absurd (let z : ◌≡◌ {A = ℕ} 0 1 = cc in omega arith)
+placed_ok k (Err e) x h = absurd cc
 
 pub placed_err : {T E : Type 0} (k : ℕ) (r : Result T E) (q : ℕ × E) → Err q ≡ placed k r → (r ≡ Err q.1) × (q ≡ (k, q.1))
-placed_err k (Ok y) q h = absurd (let z : ◌≡◌ {A = ℕ} 0 1 = cc in omega arith)
+placed_err k (Ok y) q h = absurd cc
 placed_err k (Err e) q h = let z : q ≡ (k, e) = cc in rw z (refl, refl)
 
 -- ## The fields of a job
@@ -74,7 +74,7 @@ module _ (cs : List Column) (i : ℕ) (j : Job) (whole : Result Job LineFault) w
 pub split_ok : (n : ℕ) (l : List ℕ) → Ok (tt {0}) ≡ and_then (split n l) (λ _. Ok (tt {0})) → (split n l ≡ Ok (all_of (cut 32 l))) × (length (all_of (cut 32 l)) ≡ n)
 split_ok n l h = by_bool (eqb (length (all_of (cut 32 l))) n && list_all (λ (t : List ℕ). not (empty t)) (all_of (cut 32 l)))
     (λ e. (rw e, eqb-true _ _ (and_parts _ _ e).0))
-    (λ e. let k = rw e at h in absurd (let z : ◌≡◌ {A = ℕ} 0 1 = cc in omega arith))
+    (λ e. let k = rw e at h in absurd cc)
 
 pub job_line_is : (order : List Column) (js : List Job) (l : List ℕ) → leb 64 (length js) ≡ false → split 4 l ≡ Ok (all_of (cut 32 l)) →
     job_line order js l ≡ and_then (fields order (all_of (cut 32 l)) 1 no_record) (λ j. given (distinct j.points) PointTwice (Ok j))

@@ -4,7 +4,7 @@ ghost use Rattle.wiring.specs.Wiring.{wires_of};
 ghost use Rattle.spelling.specs.Sheet.{read as read_of, jobs_from, wires_part, wires_from};
 ghost use Rattle.spelling.specs.Texts.{cut};
 ghost use Rattle.fields.specs.Reading.{rest_of};
-ghost use Rattle.sheet.specs.Tables.{Leaves, Read, Spells, Faults};
+ghost use Rattle.sheet.specs.Tables.{Leaves, Follows, Read, Spells, Faults};
 
 use crate::jobs::take_job;
 use crate::wires::take_wire;
@@ -30,7 +30,7 @@ fn wire_lines(
     while let Some(line) = reader.line() {
         at(above + wires.len(), take_wire(line, wires))?;
     }
-    if reader.rest().len() == 0 {
+    if reader.rest().is_empty() {
         return Ok(());
     }
     let fault = if wires.is_full() {
@@ -59,25 +59,23 @@ fn wire_part(
     wire_lines(reader, jobs, wires)
 }
 
-// The jobs, up to an empty line and the wires' part behind it, or up to the end of the sheet.
+// The jobs, up to the empty line before the wires' part, or up to the end of the sheet; whether the wires' part follows.
 fn job_lines(
     reader: &mut Reader<'_>,
     order: &[Column],
     jobs: &mut JobTable,
-    wires: &mut WireTable,
-) -> Result<(), SheetFault>
-    requires order { length order.now ≡ 4 }
-    requires fresh { wires_of wires.old ≡ [] }
-    ensures { Leaves (jobs_from order.now (jobs_of jobs.old) (cut 10 (rest_of reader.old))) result (jobs_of jobs.new) (wires_of wires.new) }
+) -> Result<bool, SheetFault>
+    requires { length order.now ≡ 4 }
+    ensures { Follows (jobs_from order.now (jobs_of jobs.old) (cut 10 (rest_of reader.old))) result (jobs_of jobs.new) (cut 10 (rest_of reader.new)) }
 {
     while let Some(line) = reader.line() {
-        if line.len() == 0 {
-            return wire_part(reader, jobs, wires);
+        if line.is_empty() {
+            return Ok(true);
         }
         at(2 + jobs.len(), take_job(order, line, jobs))?;
     }
-    if reader.rest().len() == 0 {
-        return Ok(());
+    if reader.rest().is_empty() {
+        return Ok(false);
     }
     let fault = if jobs.is_full() {
         LineFault::TooManyJobs
@@ -87,13 +85,13 @@ fn job_lines(
     Err(SheetFault::AtLine(2 + jobs.len(), fault))
 }
 
-// The lines of a sheet, into empty tables.
+// The lines of a sheet, into the tables, whatever they held.
 fn read_lines(sheet: &[u8], jobs: &mut JobTable, wires: &mut WireTable) -> Result<(), SheetFault>
-    requires jobs { jobs_of jobs.old ≡ [] }
-    requires wires { wires_of wires.old ≡ [] }
     ensures { Leaves (read_of sheet.now) result (jobs_of jobs.new) (wires_of wires.new) }
 {
-    if sheet.len() == 0 {
+    jobs.clear();
+    wires.clear();
+    if sheet.is_empty() {
         return Err(SheetFault::NoBytes);
     }
     let mut reader = Reader::new(sheet);
@@ -101,7 +99,10 @@ fn read_lines(sheet: &[u8], jobs: &mut JobTable, wires: &mut WireTable) -> Resul
         return Err(SheetFault::AtLine(1, LineFault::JobNames));
     };
     let order = at(1, names(line))?;
-    job_lines(&mut reader, order.as_slice(), jobs, wires)
+    if job_lines(&mut reader, order.as_slice(), jobs)? {
+        return wire_part(&mut reader, jobs, wires);
+    }
+    Ok(())
 }
 
 // Reads a sheet into the tables, whatever they held. It is accepted exactly if it spells tables within the limits;
@@ -111,14 +112,10 @@ pub fn read(sheet: &[u8], jobs: &mut JobTable, wires: &mut WireTable) -> Result<
     ensures spelled { Spells sheet.now result (jobs_of jobs.new) (wires_of wires.new) }
     ensures first { Faults sheet.now result }
 {
-    jobs.clear();
-    wires.clear();
-    match read_lines(sheet, jobs, wires) {
-        Ok(()) => Ok(()),
-        Err(fault) => {
-            jobs.clear();
-            wires.clear();
-            Err(fault)
-        }
+    if let Err(fault) = read_lines(sheet, jobs, wires) {
+        jobs.clear();
+        wires.clear();
+        return Err(fault);
     }
+    Ok(())
 }

@@ -14,24 +14,17 @@ use Rattle.spelling.specs.Texts.{Pieces, last, more, onto, cut, all_of, same, ea
 pub same_ok : {A E : Type 0} {x y : A} → ◌≡◌ {A = Result A E} (Ok x) (Ok y) → x ≡ y
 same_ok h = cc
 
--- no refusal is an answer
-pub err_not_ok : {A E X : Type 0} {e : E} {x : A} → ◌≡◌ {A = Result A E} (Err e) (Ok x) → X
-err_not_ok h = absurd (let z : ◌≡◌ {A = ℕ} 0 1 = cc in omega arith)
-
-pub none_not_some : {A X : Type 0} {x : A} → ◌≡◌ {A = Option A} None (Some x) → X
-none_not_some h = absurd (let z : ◌≡◌ {A = ℕ} 0 1 = cc in omega arith)
-
 pub ok_then : {A B E : Type 0} (r : Result A E) (f : A → Result B E) (b : B) → and_then r f ≡ Ok b → (a : A) × (r ≡ Ok a) × (f a ≡ Ok b)
 ok_then (Ok x) f b h = (x, refl, h)
-ok_then (Err e) f b h = err_not_ok h
+ok_then (Err e) f b h = absurd cc
 
 pub ok_or : {A E F : Type 0} (r : Result A E) (f : E → F) (a : A) → or_else r f ≡ Ok a → r ≡ Ok a
 ok_or (Ok x) f a h = cc
-ok_or (Err e) f a h = err_not_ok h
+ok_or (Err e) f a h = absurd cc
 
 pub ok_given : {A E : Type 0} (b : Bool) (e : E) (r : Result A E) (a : A) → given b e r ≡ Ok a → (b ≡ true) × (r ≡ Ok a)
 ok_given true e r a h = (refl, h)
-ok_given false e r a h = err_not_ok h
+ok_given false e r a h = absurd cc
 
 -- each text is what one writes for what it reads
 pub each_back : {A B E : Type 0} (f : A → Result B E) (w : B → A) → ((t : A) (x : B) → f t ≡ Ok x → w x ≡ t) → (ts : List A) (xs : List B) → each f ts ≡ Ok xs → map w xs ≡ ts

@@ -20,7 +20,7 @@ use Rattle.spelling.specs.Lines.{order_of_four, names, job_line, wire_line}
 use Rattle.spelling.specs.Sheet.{Tables, wire_names, job_number, wire_number, read_lines, read}
 use Rattle.spelling.specs.Spelling.{job_text, wire_text, job_lines, wire_lines, part, WithinJob, WithinJobs, WithinWire, WithinWires, Within}
 use Rattle.spelling.specs.Texts.{Pieces, last, more, cut, same, empty}
-use Rattle.spelling.proofs.Basics.{err_not_ok, none_not_some, same_true, lines_append}
+use Rattle.spelling.proofs.Basics.{same_true, lines_append}
 use Rattle.spelling.proofs.Lines.{columns, names_back, job_line_back, wire_line_back}
 use Rattle.spelling.proofs.Ordered.{Agrees, agrees_err, names_agree, job_line_agrees, wire_line_agrees}
 use Rattle.spelling.proofs.Reached.{jobs_reached, part_reached, wires_reached, lines_read, spelled_read}
@@ -44,23 +44,23 @@ wire_line_number cs js ws = simp (length-append, length-map) (omega arith)
 pub same_whatever_follows : SameWhateverFollows
 same_whatever_follows at_names (ended l) f s h q = rw (agrees_err (names l) (names_checks l) f (names_agree l) h)
 same_whatever_follows at_names (unended l) f s h q = let z : JobNames ≡ f = cc in rw z
-same_whatever_follows (at_job cs js) (ended []) f s h q = none_not_some h
+same_whatever_follows (at_job cs js) (ended []) f s h q = absurd cc
 same_whatever_follows (at_job cs js) (ended (x ∷ l)) f s h q =
     rw (jobs_reached cs s.0 js s.1 (more (x ∷ l) q), job_line_number cs js, agrees_err (job_line cs js (x ∷ l)) (job_checks cs js (x ∷ l)) f (job_line_agrees cs js (x ∷ l) s.0) h)
-same_whatever_follows (at_job cs js) (unended []) f s h q = none_not_some h
+same_whatever_follows (at_job cs js) (unended []) f s h q = absurd cc
 same_whatever_follows (at_job cs js) (unended (x ∷ l)) f s h q =
     let u = unended_first (ltb (length js) 64) TooManyJobs Unended in
     let z : cond (ltb (length js) 64) Unended TooManyJobs ≡ f = cc in
     rw (jobs_reached cs s.0 js s.1 (last (x ∷ l)), job_line_number cs js, z)
 same_whatever_follows (at_wire_names cs js) (ended l) f s h q = by_bool (same l wire_names)
-    (λ e. none_not_some (rw e at h))
+    (λ e. let absent = rw e at h in absurd cc)
     (λ e. let k = rw e at h in let z : WireNames ≡ f = cc in rw (part_reached cs s.0 js s.1 (more l q), part_line_number cs js, e, z))
 same_whatever_follows (at_wire_names cs js) (unended l) f s h q =
     let z : WireNames ≡ f = cc in
     rw (part_reached cs s.0 js s.1 (last l), part_line_number cs js, z)
 same_whatever_follows (at_wire cs js ws) (ended l) f s h q =
     rw (wires_reached cs s.0 js s.1 ws s.2 (more l q), wire_line_number cs js ws, agrees_err (wire_line ws l) (wire_checks ws l) f (wire_line_agrees ws l) h)
-same_whatever_follows (at_wire cs js ws) (unended []) f s h q = none_not_some h
+same_whatever_follows (at_wire cs js ws) (unended []) f s h q = absurd cc
 same_whatever_follows (at_wire cs js ws) (unended (x ∷ l)) f s h q =
     let u = unended_first (ltb (length ws) 256) TooManyWires Unended in
     let z : cond (ltb (length ws) 256) Unended TooManyWires ≡ f = cc in
@@ -149,11 +149,11 @@ read_says (faulty a l q f s e k) = ap read_lines e ∙ same_whatever_follows a l
 
 -- ## The laws of a refused sheet
 refused_back : (bytes : List ℕ) (n : ℕ) (f : LineFault) → read bytes ≡ Err (AtLine n f) → (empty bytes ≡ false) × FaultyLine bytes n f
-refused_back [] n f h = absurd (let z : ◌≡◌ {A = ℕ} 0 1 = cc in omega arith)
+refused_back [] n f h = absurd cc
 refused_back (b ∷ bs) n f h = (refl, go (outcome (cut 10 (b ∷ bs))) (sym h ∙ read_says (outcome (cut 10 (b ∷ bs)))))
   where
     go : (w : Outcome (cut 10 (b ∷ bs))) → Err (AtLine n f) ≡ says w → FaultyLine (b ∷ bs) n f
-    go (spelled cs c t o W e) r = err_not_ok r
+    go (spelled cs c t o W e) r = absurd cc
     go (faulty a l q g s e k) r = let y : g ≡ f = cc in record { place = a; sound = s; number = cc; line = l; after = q; is = e; fault = k ∙ ap Some y }
 
 fault_refused : (bytes : List ℕ) (n : ℕ) (f : LineFault) → empty bytes ≡ false → FaultyLine bytes n f → read bytes ≡ Err (AtLine n f)
@@ -167,7 +167,7 @@ pub refused_without_bytes : RefusedWithoutBytes
 refused_without_bytes bytes = (go bytes, λ e. rw e)
   where
     never : {p : Pieces} (w : Outcome p) → Err NoBytes ≡ says w → ⊥
-    never (spelled cs c t o W e) r = err_not_ok r
+    never (spelled cs c t o W e) r = absurd cc
     never (faulty a l q f s e k) r = let z : ◌≡◌ {A = ℕ} 0 1 = cc in omega arith
 
     go : (bytes : List ℕ) → read bytes ≡ Err NoBytes → bytes ≡ []

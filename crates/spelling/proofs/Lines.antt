@@ -20,7 +20,7 @@ use Rattle.spelling.specs.Fields.{number, letter, points}
 use Rattle.spelling.specs.Lines.{place, name, column, order_of_four, names, split, put, fields, job_line, wire_fields, wire_line}
 use Rattle.spelling.specs.Spelling.{join, text, names_text, job_text, wire_text, WithinJob, WithinWire}
 use Rattle.spelling.specs.Texts.{cut, all_of, empty, each}
-use Rattle.spelling.proofs.Basics.{ok_then, ok_or, ok_given, same_ok, err_not_ok, each_back, each_reads, all_each, Free, free_lacks, join_cut, cut_join, free_join}
+use Rattle.spelling.proofs.Basics.{ok_then, ok_or, ok_given, same_ok, each_back, each_reads, all_each, Free, free_lacks, join_cut, cut_join, free_join}
 use Rattle.spelling.proofs.Values.{number_back, number_reads, free_decimal, letter_back, letter_reads, FewSmall, points_back, points_reads, free_points, column_reads, column_back}
 
 -- ## The order of the columns
@@ -267,10 +267,10 @@ job_some cs before l j h =
 -- no field that is read or written is empty, and none holds a separator
 some_text : (c : Column) (t : List ℕ) (i k : Job) → put c t i ≡ Ok k → empty t ≡ false
 some_text c (x ∷ xs) i k h = refl
-some_text Proc [] i k h = err_not_ok h
-some_text Arg [] i k h = err_not_ok h
-some_text Urg [] i k h = err_not_ok h
-some_text Points [] i k h = err_not_ok h
+some_text Proc [] i k h = absurd cc
+some_text Arg [] i k h = absurd cc
+some_text Urg [] i k h = absurd cc
+some_text Points [] i k h = absurd cc
 
 some_texts : (j : Job) → ((d : Column) → Fits d j) → (cs : List Column) → list_all (λ t. not (empty t)) (map (text j) cs) ≡ true
 some_texts j f [] = refl
@@ -348,7 +348,7 @@ free_wire w W = free_join 10 32 refl (three w) (free_three 10 (omega arith) w W)
 
 some_number : (top : ℕ) (t : List ℕ) (n : ℕ) → number top t ≡ Ok n → empty t ≡ false
 some_number top (x ∷ xs) n h = refl
-some_number top [] n h = err_not_ok h
+some_number top [] n h = absurd cc
 
 pub wire_line_reads : (before : List Wire) (w : Wire) → length before < 256 → WithinWire w → leaving w.from before < 4 → wire_line before (wire_text w) ≡ Ok w
 wire_line_reads before w h W g =

@@ -24,7 +24,7 @@ use Rattle.spelling.specs.Faults.{wire_fault}
 use Rattle.spelling.specs.Fields.{plain, number, letter, points}
 use Rattle.spelling.specs.Lines.{place, name, column, order_of_four, names, put, fields, job_line, wire_fields, wire_line}
 use Rattle.spelling.specs.Texts.{cut, all_of, same, empty, each}
-use Rattle.spelling.proofs.Basics.{none_not_some, ok_then, ok_or, same_ok, each_back}
+use Rattle.spelling.proofs.Basics.{ok_then, ok_or, same_ok, each_back}
 use Rattle.spelling.proofs.Values.{number_parts, points_parts, column_back}
 use Rattle.spelling.proofs.Lines.{columns, each_column, order_from, fields_back}
 
@@ -34,16 +34,16 @@ Agrees (Ok x) cs = first cs ≡ None
 Agrees (Err e) cs = first cs ≡ Some e
 
 pub agrees_err : {A : Type 0} (r : Result A LineFault) (cs : List Check) (f : LineFault) → Agrees r cs → first cs ≡ Some f → r ≡ Err f
-agrees_err (Ok x) cs f a h = none_not_some (sym a ∙ h)
+agrees_err (Ok x) cs f a h = let absent = sym a ∙ h in absurd cc
 agrees_err (Err e) cs f a h = let z : e ≡ f = cc in rw z
 
 -- checks behind others
 first_append : (cs ds : List Check) → first cs ≡ None → first (cs ++ ds) ≡ first ds
 first_append [] ds h = refl
-first_append (c ∷ cs) ds h = by_bool c.passes (λ e. rw e (first_append cs ds (rw e at h))) (λ e. none_not_some (sym (rw e at h)))
+first_append (c ∷ cs) ds h = by_bool c.passes (λ e. rw e (first_append cs ds (rw e at h))) (λ e. let absent = sym (rw e at h) in absurd cc)
 
 first_stays : (cs ds : List Check) (f : LineFault) → first cs ≡ Some f → first (cs ++ ds) ≡ Some f
-first_stays [] ds f h = none_not_some h
+first_stays [] ds f h = absurd cc
 first_stays (c ∷ cs) ds f h = by_bool c.passes (λ e. rw e (first_stays cs ds f (rw e at h))) (λ e. rw e (rw e at h))
 
 agrees_append : {A : Type 0} (r : Result A LineFault) (cs ds : List Check) → first cs ≡ None → Agrees r ds → Agrees r (cs ++ ds)
@@ -154,8 +154,8 @@ columns_agree (t ∷ ts) = go (column t) (each column ts) (is_name t) (list_all 
     go : (r : Result Column LineFault) (s : Result (List Column) LineFault) (a b : Bool) → Agrees r (must a JobNames ∷ []) → Agrees s (must b JobNames ∷ []) → Agrees (and_then r (λ y. and_then s (λ ys. Ok (y ∷ ys)))) (must (a && b) JobNames ∷ [])
     go (Ok y) (Ok ys) true b h k = k
     go (Ok y) (Err e) true b h k = k
-    go (Ok y) s false b h k = none_not_some (sym h)
-    go (Err e) s true b h k = none_not_some h
+    go (Ok y) s false b h k = let absent = sym h in absurd cc
+    go (Err e) s true b h k = absurd cc
     go (Err e) s false b h k = h
 
 abbrev alike : Bool → Bool → Bool
@@ -190,11 +190,11 @@ names_agree l = go (each column ts) (eqb (length ts) 4) (list_all is_name ts) (d
 
     go : (r : Result (List Column) LineFault) (n e d : Bool) → Agrees r (must e JobNames ∷ []) → ((cs : List Column) → r ≡ Ok cs → order_of_four cs ≡ (n && d)) →
         Agrees (and_then r (λ cs. given (order_of_four cs) JobNames (Ok cs))) (must n JobNames ∷ (must e JobNames ∷ (must d JobNames ∷ [])))
-    go (Ok cs) n false d a o = none_not_some (sym a)
+    go (Ok cs) n false d a o = let absent = sym a in absurd cc
     go (Ok cs) true true true a o = rw (o cs refl)
     go (Ok cs) true true false a o = rw (o cs refl)
     go (Ok cs) false true d a o = rw (o cs refl)
-    go (Err f) n true d a o = none_not_some a
+    go (Err f) n true d a o = absurd cc
     go (Err f) true false d a o = a
     go (Err f) false false d a o = a
 

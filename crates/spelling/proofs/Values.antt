@@ -19,7 +19,7 @@ use Rattle.spelling.specs.Laws.{NumberExactlyWritten}
 use Rattle.spelling.specs.Lines.{name, column}
 use Rattle.spelling.specs.Spelling.{join, points_text}
 use Rattle.spelling.specs.Texts.{cut, all_of, same, each}
-use Rattle.spelling.proofs.Basics.{ok_given, same_ok, err_not_ok, each_back, each_all, each_reads, same_true, Free, some_piece, join_cut, cut_join, free_join}
+use Rattle.spelling.proofs.Basics.{ok_given, same_ok, each_back, each_all, each_reads, same_true, Free, some_piece, join_cut, cut_join, free_join}
 
 -- ## Numbers
 pub base_ten : IsNumeralModel (λ ds. all_ascii_digits ds ≡ true) (digits_value 10)
@@ -81,13 +81,13 @@ free_decimal c h n b = free_digits c h (decimal n) (digits_decimal base_ten n b)
 
 -- ## Letters
 pub letter_back : (t : List ℕ) (x : ℕ) → letter t ≡ Ok x → ((x ∷ []) ≡ t) × ((x ≡ 84) ⊎ (x ≡ 83))
-letter_back [] x h = err_not_ok h
-letter_back (a ∷ (b ∷ t)) x h = err_not_ok h
+letter_back [] x h = absurd cc
+letter_back (a ∷ (b ∷ t)) x h = absurd cc
 letter_back (b ∷ []) x h = by_bool (eqb b 84)
     (λ e. let z : 84 ≡ x = same_ok (rw e at h) in (rw (← z, eqb-true b 84 e), inl (sym z)))
     (λ e. by_bool (eqb b 83)
     (λ f. let z : 83 ≡ x = same_ok (rw (e, f) at h) in (rw (← z, eqb-true b 83 f), inr (sym z)))
-    (λ f. err_not_ok (rw (e, f) at h)))
+    (λ f. let absent = rw (e, f) at h in absurd cc))
 
 pub letter_reads : (x : ℕ) → (x ≡ 84) ⊎ (x ≡ 83) → letter (x ∷ []) ≡ Ok x
 letter_reads x (inl e) = rw e
@@ -142,7 +142,7 @@ points_reads (p ∷ ps) P =
     let r = number_reads 255 p (omega arith) small.0 in
     let s : decimal p ≡ 45 ∷ [] = cc in
     let u : number 255 (45 ∷ []) ≡ Ok p = rw s at r in
-    err_not_ok {e = NoNumber} u)
+    absurd cc)
     (λ e. rw (e, c, length-map, le-leb (length (p ∷ ps)) 8 few) (each_reads (number 255) decimal (p ∷ ps) (All-weaker (λ p. p ≤ 255) _ (λ p k. number_reads 255 p (omega arith) k) (p ∷ ps) small)))
 
 pub free_points : (c : ℕ) → (IsInRange 48 57 c → ⊥) → (c ≡ 44 → ⊥) → (c ≡ 45 → ⊥) → (ps : List ℕ) → FewSmall ps → Free c (points_text ps)
@@ -161,4 +161,4 @@ column_back t c h = by_bool (same t (name Proc)) (λ e. rw (← same_ok (rw e at
     (λ e. by_bool (same t (name Arg)) (λ f. rw (← same_ok (rw (e, f) at h)) (sym (same_true t _ f)))
     (λ f. by_bool (same t (name Urg)) (λ g. rw (← same_ok (rw (e, f, g) at h)) (sym (same_true t _ g)))
     (λ g. by_bool (same t (name Points)) (λ i. rw (← same_ok (rw (e, f, g, i) at h)) (sym (same_true t _ i)))
-    (λ i. err_not_ok (rw (e, f, g, i) at h)))))
+    (λ i. let absent = rw (e, f, g, i) at h in absurd cc))))

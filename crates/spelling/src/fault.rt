@@ -3,34 +3,48 @@ ghost use Rattle.spelling.specs.Faults.{wire_fault};
 ghost use Rattle.spelling.specs.declared.fault.LineFault.TheVariants.{AtField};
 ghost use Rattle.spelling.specs.declared.fault.SheetFault.TheVariants.{AtLine};
 
+use crate::explain::InSheet;
 use job::fault::FieldFault;
+use thiserror::Error;
 use wiring::fault::WireFault;
 
-// What is wrong with one line.
-#[derive(Clone, Copy, PartialEq, Eq, Debug)]
+// What is wrong with one line; the words go on from the number of the line.
+#[derive(Clone, Copy, PartialEq, Eq, Debug, Error)]
 pub enum LineFault {
     // the first line is not the four names of the columns
+    #[error(": the names proc, arg, urg and points, each once, are wanted here, with a line end behind them")]
     JobNames,
     // the line behind the empty line is not the three names of the wires' part
+    #[error(": the names from to delay are wanted here, with a line end behind them")]
     WireNames,
     // a line of values without the byte that ends it
+    #[error(" has no line end: every line ends with one")]
     Unended,
     // not this number of fields, or an empty one
+    #[error(" has not {0} fields: {0} are wanted, none empty, with one space between two")]
     FieldCount(usize),
     // the field at this place, counted from 1
+    #[error(", field {0} {said}", said = InSheet(*.1))]
     AtField(usize, FieldFault),
+    #[error(" has a point twice: the points of a job are all different")]
     PointTwice,
+    #[error(" is one job too many: at most 64 are allowed")]
     TooManyJobs,
+    #[error(" is one wire too many: at most 256 are allowed")]
     TooManyWires,
+    #[error(" is a wire from a point to itself: a wire leads to another point")]
     WireToItself,
+    #[error(" is a fifth wire from one point: at most 4 are allowed")]
     FifthWire,
 }
 
 // What is wrong with a sheet.
-#[derive(Clone, Copy, PartialEq, Eq, Debug)]
+#[derive(Clone, Copy, PartialEq, Eq, Debug, Error)]
 pub enum SheetFault {
+    #[error("The sheet is empty: a line of names is wanted.")]
     NoBytes,
     // the line at this place, counted from 1
+    #[error("Line {0}{1}.")]
     AtLine(usize, LineFault),
 }
 

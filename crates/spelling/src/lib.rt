@@ -2,7 +2,7 @@
 #![tactic(auto)]
 
 pub mod column;
-pub mod explain;
+mod explain;
 pub mod fault;
 pub mod laws;
 pub mod refusal;
