@@ -1,9 +1,8 @@
 -- A loop's test of each element: one step on, found, and at the end.
-use Rattle.std.proofs.Common.{◌≡◌, ℕ, zero, suc, ◌+◌, ◌-◌, ◌<◌, Bool, true, false, ◌||◌, List, [], ◌∷◌, ◌++◌, length, get_or, take, drop, set, sym, refl, ◌∙◌}
-use Rattle.std.proofs.lemmas.List.{at_drop_more, take_rest}
+use Rattle.std.proofs.Common.{◌≡◌, ℕ, zero, suc, ◌+◌, ◌<◌, Bool, true, false, ◌||◌, List, [], ◌∷◌, ◌++◌, length, get_or, drop, set, sym, refl, ◌∙◌}
+use Rattle.std.proofs.lemmas.List.{at_drop_more}
 use Rattle.std.proofs.lemmas.Bool.{and_parts}
 use Rattle.std.specs.List.{list_all, list_any}
-use Rattle.fixed.specs.Lists.{has, distinct}
 
 module _ {A : Type 0} (f : A → Bool) (xs : List A) (i : ℕ) (d : A) where
   pub some_stays : i < length xs → f (get_or xs i d) ≡ false → list_any f (drop i xs) ≡ list_any f (drop (i + 1) xs)
@@ -17,12 +16,6 @@ module _ {A : Type 0} (f : A → Bool) (xs : List A) (i : ℕ) (d : A) where
 
   pub every_fails : i < length xs → f (get_or xs i d) ≡ false → list_all f (drop i xs) ≡ false
   every_fails h e = at_drop_more (list_all f) xs i d h ∙ rw e
-
-pub distinct_stays : (xs : List ℕ) (i : ℕ) → i < length xs → has (take (length xs - (i + 1)) (drop (i + 1) xs)) (get_or xs i 0) ≡ false → distinct (drop i xs) ≡ distinct (drop (i + 1) xs)
-distinct_stays xs i h e = let k = rw (take_rest xs (i + 1)) at e in at_drop_more distinct xs i 0 h ∙ rw k
-
-pub distinct_fails : (xs : List ℕ) (i : ℕ) → i < length xs → has (take (length xs - (i + 1)) (drop (i + 1) xs)) (get_or xs i 0) ≡ true → distinct (drop i xs) ≡ false
-distinct_fails xs i h e = let k = rw (take_rest xs (i + 1)) at e in at_drop_more distinct xs i 0 h ∙ rw k
 
 -- ## One element more, or another one
 pub every_push : {A : Type 0} (f : A → Bool) (xs : List A) (y : A) → list_all f xs ≡ true → f y ≡ true → list_all f (xs ++ y ∷ []) ≡ true

@@ -1,25 +1,16 @@
 ghost use Rattle.std.specs.Prelude.{◌≡◌};
-ghost use Rattle.fixed.specs.Lists.{has, distinct};
+ghost use Rattle.fixed.specs.Lists.{all_differ};
 
-fn holds(numbers: &[u8], n: u8) -> bool
-    ensures { result ≡ has numbers.now n }
+// Whether no two elements are equal.
+pub fn all_different<T: PartialEq>(items: &[T]) -> bool
+    ensures { result ≡ all_differ T.eq items.now }
 {
-    for m in numbers {
-        if *m == n {
-            return true;
-        }
-    }
-    false
-}
-
-// Whether no number stands twice.
-pub fn all_different(numbers: &[u8]) -> bool
-    ensures { result ≡ distinct numbers.now }
-{
-    for (i, n) in numbers.iter().enumerate() {
-        if holds(&numbers[i + 1..], *n) {
+    let mut left = items;
+    while let Some((first, rest)) = left.split_first() {
+        if rest.contains(first) {
             return false;
         }
+        left = rest;
     }
     true
 }

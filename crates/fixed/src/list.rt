@@ -1,4 +1,4 @@
-ghost use Rattle.std.specs.Prelude.{◌≡◌, ◌≤◌, ⊤, length};
+ghost use Rattle.std.specs.Prelude.{◌≡◌, ◌≤◌, ⊤};
 
 use std::alloc::AllocError;
 
@@ -8,10 +8,10 @@ mod calls;
 pub struct FixedList<T: Copy, const N: usize> {
     items: [T; N],
     len: usize,
-    ghost whole: { length items ≡ N },
     ghost within: { len ≤ N },
 }
 
+// By hand: a struct with a ghost field derives no `Clone`, and a model that shows only the list would not be `Copy`.
 impl<T: Copy, const N: usize> Clone for FixedList<T, N> {
     ghost is_clone = { λ list copy. copy ≡ list };
 

@@ -1,8 +1,10 @@
-ghost use Rattle.std.specs.Prelude.{◌≡◌, [], length};
+ghost use Rattle.std.specs.Prelude.{◌≡◌, [], length, cond};
+ghost use Rattle.fixed.specs.Results.{given};
+ghost use Rattle.spelling.specs.declared.fault.LineFault.TheVariants.{Unended};
+ghost use Rattle.spelling.specs.declared.fault.SheetFault.TheVariants.{AtLine};
 ghost use Rattle.job.specs.Records.{jobs_of};
-ghost use Rattle.wiring.specs.Wiring.{wires_of};
 ghost use Rattle.spelling.specs.Sheet.{read as read_of, jobs_from, wires_part, wires_from};
-ghost use Rattle.spelling.specs.Texts.{cut};
+ghost use Rattle.spelling.specs.Texts.{cut, empty};
 ghost use Rattle.fields.specs.Reading.{rest_of};
 ghost use Rattle.sheet.specs.Tables.{Leaves, Follows, Read, Spells, Faults};
 
@@ -17,28 +19,41 @@ use spelling::column::Column;
 use spelling::fault::{LineFault, SheetFault};
 use wiring::table::WireTable;
 
+// That nothing is left behind the last line that has its end. What is left is a line too many where the table is full.
+fn at_end(
+    reader: &Reader<'_>,
+    line: usize,
+    full: bool,
+    too_many: LineFault,
+) -> Result<(), SheetFault>
+    ensures { result ≡ given (empty (rest_of reader.now)) (AtLine line (cond full too_many Unended)) (Ok tt) }
+{
+    if reader.rest().is_empty() {
+        return Ok(());
+    }
+    let fault = if full { too_many } else { LineFault::Unended };
+    Err(SheetFault::AtLine(line, fault))
+}
+
 // The wires, up to the end of the sheet.
 fn wire_lines(
     reader: &mut Reader<'_>,
     jobs: &JobTable,
     wires: &mut WireTable,
 ) -> Result<(), SheetFault>
-    ensures { Leaves (wires_from (jobs_of jobs.now) (wires_of wires.old) (cut 10 (rest_of reader.old))) result (jobs_of jobs.now) (wires_of wires.new) }
+    ensures { Leaves (wires_from (jobs_of jobs.now) wires.old (cut 10 (rest_of reader.old))) result (jobs_of jobs.now) wires.new }
 {
     // above the wires stand the names, the jobs, an empty line and the wires' names; lines count from 1
     let above = 4 + jobs.len();
     while let Some(line) = reader.line() {
         at(above + wires.len(), take_wire(line, wires))?;
     }
-    if reader.rest().is_empty() {
-        return Ok(());
-    }
-    let fault = if wires.is_full() {
-        LineFault::TooManyWires
-    } else {
-        LineFault::Unended
-    };
-    Err(SheetFault::AtLine(above + wires.len(), fault))
+    at_end(
+        reader,
+        above + wires.len(),
+        wires.is_full(),
+        LineFault::TooManyWires,
+    )
 }
 
 // The wires' part, behind the empty line: its names, and then the wires.
@@ -47,8 +62,8 @@ fn wire_part(
     jobs: &JobTable,
     wires: &mut WireTable,
 ) -> Result<(), SheetFault>
-    requires { wires_of wires.old ≡ [] }
-    ensures { Leaves (wires_part (jobs_of jobs.now) (cut 10 (rest_of reader.old))) result (jobs_of jobs.now) (wires_of wires.new) }
+    requires { wires.old ≡ [] }
+    ensures { Leaves (wires_part (jobs_of jobs.now) (cut 10 (rest_of reader.old))) result (jobs_of jobs.now) wires.new }
 {
     let Some(line) = reader.line() else {
         return Err(SheetFault::AtLine(3 + jobs.len(), LineFault::WireNames));
@@ -74,20 +89,18 @@ fn job_lines(
         }
         at(2 + jobs.len(), take_job(order, line, jobs))?;
     }
-    if reader.rest().is_empty() {
-        return Ok(false);
-    }
-    let fault = if jobs.is_full() {
-        LineFault::TooManyJobs
-    } else {
-        LineFault::Unended
-    };
-    Err(SheetFault::AtLine(2 + jobs.len(), fault))
+    at_end(
+        reader,
+        2 + jobs.len(),
+        jobs.is_full(),
+        LineFault::TooManyJobs,
+    )?;
+    Ok(false)
 }
 
 // The lines of a sheet, into the tables, whatever they held.
 fn read_lines(sheet: &[u8], jobs: &mut JobTable, wires: &mut WireTable) -> Result<(), SheetFault>
-    ensures { Leaves (read_of sheet.now) result (jobs_of jobs.new) (wires_of wires.new) }
+    ensures { Leaves (read_of sheet.now) result (jobs_of jobs.new) wires.new }
 {
     jobs.clear();
     wires.clear();
@@ -108,8 +121,8 @@ fn read_lines(sheet: &[u8], jobs: &mut JobTable, wires: &mut WireTable) -> Resul
 // Reads a sheet into the tables, whatever they held. It is accepted exactly if it spells tables within the limits;
 // a refused one leaves both tables empty, and the answer is its first fault.
 pub fn read(sheet: &[u8], jobs: &mut JobTable, wires: &mut WireTable) -> Result<(), SheetFault>
-    ensures answer { Read sheet.now result (jobs_of jobs.new) (wires_of wires.new) }
-    ensures spelled { Spells sheet.now result (jobs_of jobs.new) (wires_of wires.new) }
+    ensures answer { Read sheet.now result (jobs_of jobs.new) wires.new }
+    ensures spelled { Spells sheet.now result (jobs_of jobs.new) wires.new }
     ensures first { Faults sheet.now result }
 {
     if let Err(fault) = read_lines(sheet, jobs, wires) {

@@ -1,16 +1,18 @@
 -- Counts of the wires that lead from each point.
-use Rattle.std.proofs.Common.{◌≡◌, ℕ, ◌+◌, ◌<◌, ◌≤◌, true, false, cond, eqb, leb, ◌≢◌, List, [], ◌∷◌, ◌++◌, map, length, get_or, set, replicate, Ok, Err, sym, ap, ◌∙◌, add-zero, arith, length-set}
+use Rattle.std.proofs.Common.{◌≡◌, ℕ, ◌+◌, ◌<◌, ◌≤◌, true, cond, eqb, leb, ◌≢◌, List, [], ◌∷◌, ◌++◌, map, length, get_or, set, replicate, Ok, Err, sym, ap, ◌∙◌, arith, length-set}
 use Rattle.std.proofs.lemmas.List.FromFn.{fill_by_all, get_or-map-range_with_len, length-map-range_with_len}
-use Rattle.std.proofs.lemmas.List.{get_or-set_same, get_or-set_other}
-use Rattle.std.proofs.lemmas.List.Sums.{sum_by_push}
-use Rattle.std.proofs.lemmas.Bool.{eq-eqb, ne_eqb, eqb-true, eqb-false, leb-true, leb-false, le-leb, lt-ltb, le-ltb}
+use Rattle.std.proofs.lemmas.List.{get_or-set_other}
+use Rattle.std.proofs.lemmas.List.Sums.{sum_by_push, AllPass-from_list_all, list_all-from_AllPass}
+use Rattle.std.proofs.lemmas.List.Folds.{list_all-append}
+use Rattle.std.proofs.lemmas.List.Elements.{All-set}
+use Rattle.std.proofs.lemmas.Bool.{ne_eqb, le-leb, lt-ltb, le-ltb}
+use Rattle.std.proofs.lemmas.Bool.Decides.{nat_tests}
+use Rattle.std.proofs.lemmas.Grind.{get_or-set_at}
 use Rattle.std.specs.List.{range_with_len}
-use Rattle.std.specs.List.{list_all}
-use Rattle.wiring.specs.declared.fault.WireFault.TheVariants.{TableFull, ToItself, FifthFromPoint}
+use Rattle.wiring.specs.declared.fault.WireFault.TheVariants.{FifthFromPoint}
 use Rattle.wiring.specs.declared.wire.Wire.{Wire}
 use Rattle.wiring.specs.Wires.{leads_on, leaving, tally, wired}
-use Rattle.fixed.proofs.Pushing.{by_bool}
-use Rattle.fixed.proofs.Scans.{every_push, every_set}
+use Rattle.wiring.specs.Wiring.{Tallied}
 
 pub leaving_push : (p : ℕ) (ws : List Wire) (w : Wire) → leaving p (ws ++ w ∷ []) ≡ leaving p ws + cond (eqb w.from p) 1 0
 leaving_push p ws w = sum_by_push (λ w. cond (eqb w.from p) 1 0) ws w
@@ -31,16 +33,7 @@ counts_push n ws w h = sym (fill_by_all (λ p. leaving p (ws ++ w ∷ [])) (set 
     long = length-map-range_with_len (λ p. leaving p ws) 0 n
 
     at : (k : ℕ) → k < n → get_or (set (counts n ws) w.from (get_or (counts n ws) w.from 0 + 1)) k 0 ≡ leaving k (ws ++ w ∷ [])
-    at k l = by_bool (eqb w.from k)
-        (λ e.
-        let i = eqb-true w.from k e in
-        let m : w.from < length (counts n ws) = rw long h in
-        ap (λ q. get_or (set (counts n ws) w.from (get_or (counts n ws) w.from 0 + 1)) q 0) (sym i)
-        ∙ (get_or-set_same (counts n ws) w.from _ 0 m ∙ (ap (λ x. x + 1) (counts_at n ws w.from h)
-        ∙ (ap (λ q. leaving q ws + 1) i ∙ sym (leaving_push k ws w ∙ rw e)))))
-        (λ e.
-        let o : k ≢ w.from = λ z. eqb-false w.from k e (sym z) in
-        get_or-set_other (counts n ws) w.from k _ 0 o ∙ (counts_at n ws k l ∙ sym (leaving_push k ws w ∙ rw e (add-zero (leaving k ws)))))
+    at k l = grind (arith, nat_tests, leaving_push k ws w, counts_at n ws k l, counts_at n ws w.from h, get_or-set_at, get_or-set_other, long)
 
 pub tally_at : (ws : List Wire) (p : ℕ) → p < 256 → get_or (tally ws) p 0 ≡ leaving p ws
 unfolding tally counts
@@ -50,35 +43,25 @@ pub tally_push : (ws : List Wire) (w : Wire) → w.from < 256 → tally (ws ++ w
 unfolding tally counts
 tally_push ws w h = counts_push 256 ws w h
 
-module _ (ws : List Wire) (w : Wire) (cs : List ℕ) where
-  pub wired_full : leb 256 (length ws) ≡ true → wired ws w ≡ Err TableFull
-  wired_full h = rw (le-ltb (length ws) 256 (leb-true _ _ h))
-
-  pub wired_itself : leb 256 (length ws) ≡ false → w.from ≡ w.to → wired ws w ≡ Err ToItself
-  wired_itself h e = rw (lt-ltb (length ws) 256 (leb-false _ _ h), eq-eqb w.from w.to e)
-
-  count_is : tally ws ≡ cs → w.from < 256 → leaving w.from ws ≡ get_or cs w.from 0
-  count_is e h = sym (tally_at ws w.from h) ∙ ap (λ (l : List ℕ). get_or l w.from 0) e
-
-  pub wired_fifth : leb 256 (length ws) ≡ false → (w.from ≡ w.to → ⊥) → tally ws ≡ cs → w.from < 256 → 4 ≤ get_or cs w.from 0 → wired ws w ≡ Err FifthFromPoint
-  wired_fifth h n e l k = let c = count_is e l in rw (lt-ltb (length ws) 256 (leb-false _ _ h), ne_eqb w.from w.to n, le-ltb (leaving w.from ws) 4 (omega arith))
-
-  pub wired_well : leb 256 (length ws) ≡ false → (w.from ≡ w.to → ⊥) → tally ws ≡ cs → w.from < 256 → get_or cs w.from 0 < 4 → wired ws w ≡ Ok w
-  wired_well h n e l k = let c = count_is e l in rw (lt-ltb (length ws) 256 (leb-false _ _ h), ne_eqb w.from w.to n, lt-ltb (leaving w.from ws) 4 (omega arith))
-
-  pub counted_push : tally ws ≡ cs → w.from < 256 → tally (ws ++ w ∷ []) ≡ set cs w.from (get_or cs w.from 0 + 1)
-  counted_push e h = tally_push ws w h ∙ ap (λ (l : List ℕ). set l w.from (get_or l w.from 0 + 1)) e
-
-  pub onward_push : list_all leads_on ws ≡ true → (w.from ≡ w.to → ⊥) → list_all leads_on (ws ++ w ∷ []) ≡ true
-  onward_push h n = every_push leads_on ws w h (rw (ne_eqb w.from w.to n))
-
-  pub four_push : list_all (λ (n : ℕ). leb n 4) cs ≡ true → get_or cs w.from 0 < 4 → list_all (λ (n : ℕ). leb n 4) (set cs w.from (get_or cs w.from 0 + 1)) ≡ true
-  four_push h k = every_set (λ (n : ℕ). leb n 4) cs w.from _ h (le-leb _ _ (omega arith))
-
 -- a table without wires
-pub none_counted : (ws : List Wire) → ws ≡ [] → tally ws ≡ replicate 256 0
+pub none_tallied : (ws : List Wire) → ws ≡ [] → Tallied ws (replicate 256 0)
 unfolding tally
-none_counted ws e = ap tally e
+none_tallied ws e = record { counted = ap tally e; onward = rw e; four = λ _. true }
 
-pub none_onward : (ws : List Wire) → ws ≡ [] → list_all leads_on ws ≡ true
-none_onward ws e = rw e
+-- one wire more, by the count at its place
+module _ (ws : List Wire) (w : Wire) (cs : List ℕ) (i : ℕ) (t : Tallied ws cs) (e : i ≡ w.from) (h : w.from < 256) where
+  count_is : leaving w.from ws ≡ get_or cs i 0
+  count_is = sym (tally_at ws w.from h) ∙ (ap (λ l. get_or l w.from 0) t.counted ∙ ap (λ n. get_or cs n 0) (sym e))
+
+  pub wired_fifth : length ws < 256 → w.from ≢ w.to → 4 ≤ get_or cs i 0 → wired ws w ≡ Err FifthFromPoint
+  wired_fifth l n k = rw (lt-ltb (length ws) 256 l, ne_eqb w.from w.to n, le-ltb (leaving w.from ws) 4 (omega (arith, count_is)))
+
+  pub wired_well : length ws < 256 → w.from ≢ w.to → get_or cs i 0 < 4 → wired ws w ≡ Ok w
+  wired_well l n k = rw (lt-ltb (length ws) 256 l, ne_eqb w.from w.to n, lt-ltb (leaving w.from ws) 4 (omega (arith, count_is)))
+
+  pub tallied_push : w.from ≢ w.to → get_or cs i 0 < 4 → (is : List Wire) → is ≡ ws ++ w ∷ [] → Tallied is (set cs i (get_or cs i 0 + 1))
+  tallied_push n k is p = rw (p, e) (record {
+    counted = tally_push ws w h ∙ ap (λ l. set l w.from (get_or l w.from 0 + 1)) t.counted;
+    onward = rw (list_all-append leads_on ws (w ∷ []), t.onward, ne_eqb w.from w.to n);
+    four = list_all-from_AllPass (λ (n : ℕ). leb n 4) _ (All-set (λ n. leb n 4 ≡ true) cs w.from _ (le-leb _ _ (rw (← e) (omega arith))) (AllPass-from_list_all (λ (n : ℕ). leb n 4) cs t.four));
+  })

@@ -1,10 +1,11 @@
-ghost use Rattle.std.specs.Prelude.{◌≡◌, true, nat_le};
-ghost use Rattle.std.specs.List.{list_all};
+ghost use Rattle.std.specs.Prelude.{List};
 ghost use Rattle.fixed.specs.Fixed.{list_of};
-ghost use Rattle.wiring.specs.Wires.{leads_on, tally};
+ghost use Rattle.wiring.specs.declared.wire.Wire.{Wire};
+ghost use Rattle.wiring.specs.Wiring.{Tallied};
 
 use crate::wire::Wire;
 use fixed::list::FixedList;
+use std::marker::Model;
 
 mod calls;
 
@@ -14,7 +15,13 @@ pub struct WireTable {
     wires: FixedList<Wire, 256>,
     // how many wires lead from each point, so that a fifth is seen at once
     leaving: [u8; 256],
-    ghost counted: { tally (list_of wires) ≡ leaving },
-    ghost onward: { list_all leads_on (list_of wires) ≡ true },
-    ghost four: { list_all (λ n. nat_le n 4) leaving ≡ true },
+}
+
+// Clauses see the wires, in their order.
+impl Model for WireTable {
+    ghost Value = { List Wire };
+
+    ghost view = { λ t. list_of t.wires };
+
+    ghost invariant = { λ t. Tallied (list_of t.wires) t.leaving };
 }

@@ -31,8 +31,7 @@ impl<T: Copy, const N: usize> FixedList<T, N> {
         ensures value { result.now ≡ list_of self.now }
         ensures bound { length result.now ≤ N }
     {
-        let all = &self.items[..];
-        &all[0..self.len]
+        &self.items[..self.len]
     }
 
     pub fn clear(&mut self)
@@ -42,10 +41,11 @@ impl<T: Copy, const N: usize> FixedList<T, N> {
     }
 
     // One element more, behind the others; a full list stays as it is, and the element comes back.
+    #[tactic(auto, using(std::proofs::lemmas::List::take_more_set))]
     pub fn push(&mut self, x: T) -> Result<(), T>
         ensures { Pushed N (λ y. y) (list_of self.old) x result (list_of self.new) }
     {
-        if self.len >= N {
+        if self.is_full() {
             return Err(x);
         }
         self.items[self.len] = x;

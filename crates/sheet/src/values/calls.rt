@@ -34,20 +34,12 @@ impl Values {
         ensures puts { Puts column (head_of (pieces_of 32 reader.old)) (values_of self.old) result (values_of self.new) }
         ensures left { pieces_of 32 reader.new ≡ tail_of (pieces_of 32 reader.old) }
     {
-        match reader.field(column)? {
-            Field::Letter(c) => {
-                self.letter = c;
-            }
-            Field::Number(n) => {
-                if let Column::Urg = column {
-                    self.urgency = n as u8;
-                } else {
-                    self.argument = n;
-                }
-            }
-            Field::List(part, _) => {
-                self.points = points(part)?;
-            }
+        match (column, reader.field(column)?) {
+            (_, Field::Letter(letter)) => self.letter = letter,
+            // at most 9, so the cast keeps it
+            (Column::Urg, Field::Number(urgency)) => self.urgency = urgency as u8,
+            (_, Field::Number(argument)) => self.argument = argument,
+            (_, Field::List(part, _)) => self.points = points(part)?,
         }
         Ok(())
     }
@@ -58,10 +50,9 @@ impl Values {
     {
         match JobRecord::new(self.letter, self.argument, self.urgency, self.points) {
             Ok(record) => Ok(record),
-            Err(fault) => match fault {
-                JobFault::PointTwice => Err(LineFault::PointTwice),
-                JobFault::Field(_) => unreachable(),
-            },
+            Err(JobFault::PointTwice) => Err(LineFault::PointTwice),
+            // each field was read within its limits
+            Err(JobFault::Field(_)) => unreachable!(),
         }
     }
 }

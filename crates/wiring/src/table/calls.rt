@@ -1,5 +1,7 @@
-ghost use Rattle.std.specs.Prelude.{◌≡◌, ◌≤◌, [], length, nat_le};
-ghost use Rattle.wiring.specs.Wiring.{wires_of, Strung};
+ghost use Rattle.std.specs.Prelude.{◌≡◌, ◌≤◌, true, [], length, nat_le};
+ghost use Rattle.std.specs.List.{list_all};
+ghost use Rattle.wiring.specs.Wires.{leads_on, tally};
+ghost use Rattle.wiring.specs.Wiring.{Strung};
 
 use crate::fault::WireFault;
 use crate::table::WireTable;
@@ -7,41 +9,41 @@ use crate::wire::Wire;
 use fixed::list::FixedList;
 
 impl WireTable {
+    #[tactic(auto, using(crate::proofs::Counts::none_tallied))]
     pub fn new() -> WireTable
-        ensures { wires_of result ≡ [] }
+        ensures { result ≡ [] }
     {
         WireTable {
-            wires: FixedList::new(Wire {
-                from: 0,
-                to: 0,
-                delay: 0,
-            }),
+            wires: FixedList::new(Wire::default()),
             leaving: [0; 256],
         }
     }
 
     pub fn len(&self) -> usize
-        ensures value { result ≡ length (wires_of self.now) }
+        ensures value { result ≡ length self.now }
         ensures bound { result ≤ 256 }
     {
         self.wires.len()
     }
 
     pub fn is_full(&self) -> bool
-        ensures { result ≡ nat_le 256 (length (wires_of self.now)) }
+        ensures { result ≡ nat_le 256 (length self.now) }
     {
         self.wires.is_full()
     }
 
     pub fn wires(&self) -> &[Wire]
-        ensures value { result.now ≡ wires_of self.now }
+        ensures value { result.now ≡ self.now }
         ensures bound { length result.now ≤ 256 }
+        ensures onward { list_all leads_on result.now ≡ true }
+        ensures four { list_all (λ n. nat_le n 4) (tally result.now) ≡ true }
     {
         self.wires.as_slice()
     }
 
+    #[tactic(auto, using(crate::proofs::Counts::none_tallied))]
     pub fn clear(&mut self)
-        ensures { wires_of self.new ≡ [] }
+        ensures { self.new ≡ [] }
     {
         self.wires.clear();
         self.leaving = [0; 256];
@@ -49,7 +51,7 @@ impl WireTable {
 
     // One wire more, behind the others; a refused one leaves the table as it is.
     pub fn push(&mut self, wire: Wire) -> Result<(), WireFault>
-        ensures { Strung (wires_of self.old) wire result (wires_of self.new) }
+        ensures { Strung self.old wire result self.new }
     {
         if self.wires.is_full() {
             return Err(WireFault::TableFull);
@@ -57,12 +59,12 @@ impl WireTable {
         if wire.from == wire.to {
             return Err(WireFault::ToItself);
         }
-        let count = self.leaving[wire.from as usize];
-        if count >= 4 {
+        let from = usize::from(wire.from);
+        if self.leaving[from] >= 4 {
             return Err(WireFault::FifthFromPoint);
         }
         let _ = self.wires.push(wire);
-        self.leaving[wire.from as usize] = count + 1;
+        self.leaving[from] += 1;
         Ok(())
     }
 }

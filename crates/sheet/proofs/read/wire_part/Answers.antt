@@ -1,5 +1,4 @@
 use Rattle.job.specs.Records.{jobs_of}
-use Rattle.wiring.specs.Wiring.{wires_of}
 use Rattle.spelling.specs.Texts.{cut}
 use Rattle.fields.specs.Reading.{rest_of}
 use Rattle.sheet.proofs.Lines.{leaves_same, part_wrong, part_right}
@@ -12,5 +11,5 @@ returns-then-not-is_text c =
 pub returns : goal.returns
 returns c =
     leaves_same _ _ c.wire_lines.result _ _
-    (part_right (jobs_of c.args.jobs.now) (cut 10 (rest_of c.args.reader.now)) (cut 10 (rest_of c.line.new.self)) c.in-Some.line.now c.in-Some.ensures.next.0 (wires_of c.args.wires.now) c.if-not-is_text.ensures c.requires)
+    (part_right (jobs_of c.args.jobs.now) (cut 10 (rest_of c.args.reader.now)) (cut 10 (rest_of c.line.new.self)) c.in-Some.line.now c.in-Some.ensures.next.0 c.args.wires.now c.if-not-is_text.ensures c.requires)
     c.wire_lines.ensures
