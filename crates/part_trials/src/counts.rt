@@ -2,7 +2,6 @@
 use job::draft::JobDraft;
 use job::record::JobRecord;
 use ranking::count::count_below;
-use ranking::order::Order;
 use ranking::pedigree::Pedigree;
 use ranking::precedence::{Precedence, SheetOrder, UrgencyOrder, standing};
 use ranking::standing::Standing;
@@ -10,11 +9,8 @@ use std::alloc::{AllocError, Global};
 use std::test::Fail;
 
 // The counts of the elements, as text.
-fn counts<E: Order>(all: &[E], heap: Global) -> Result<String, AllocError> {
-    let mut counts = Vec::new(heap);
-    for one in all {
-        counts.push(count_below(all, one))?;
-    }
+fn counts<E: Ord>(all: &[E], heap: Global) -> Result<String, AllocError> {
+    let counts: Vec<usize> = all.iter().map(|one| count_below(all, one)).collect(heap)?;
     format!(in heap; "{counts:?}")
 }
 
@@ -46,7 +42,7 @@ fn standings(rt: HostRuntime) -> Result<(), Fail> {
         held((2, 0), 4),
     ];
     assert_eq!(rt; counts(&by_two, heap)?.as_str(), "[2, 0, 3, 1]");
-    assert_eq!(rt; by_two[0].is_same(&by_two[2]), false);
+    assert_eq!(rt; by_two[0] == by_two[2], false);
     Ok(())
 }
 
@@ -63,8 +59,8 @@ fn pedigrees(rt: HostRuntime) -> Result<(), Fail> {
         pedigree(1, 1),
     ];
     assert_eq!(rt; counts(&all, rt.alloc())?.as_str(), "[2, 1, 3, 0]");
-    assert_eq!(rt; all[0].is_same(&pedigree(2, 1)), true);
-    assert_eq!(rt; all[0].is_same(&pedigree(1, 2)), false);
+    assert_eq!(rt; all[0] == pedigree(2, 1), true);
+    assert_eq!(rt; all[0] == pedigree(1, 2), false);
     Ok(())
 }
 
@@ -84,10 +80,10 @@ fn under<P: Precedence>(
     jobs: &[(JobRecord, u8)],
     heap: Global,
 ) -> Result<String, AllocError> {
-    let mut all = Vec::new(heap);
-    for (job, number) in jobs {
-        all.push(standing(precedence, job, *number))?;
-    }
+    let all: Vec<Standing<P::Key>> = jobs
+        .iter()
+        .map(|(job, number)| standing(precedence, job, *number))
+        .collect(heap)?;
     counts(all.as_slice(), heap)
 }
 

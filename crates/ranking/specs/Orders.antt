@@ -1,5 +1,15 @@
 -- Orders, as tests of two values.
 use Rattle.std.specs.Prelude.{◌≡◌, ℕ, Bool, true, false, ◌&&◌, ◌||◌, List, count_by}
+use Rattle.std.specs.declared.cmp.Ordering.{Ordering}
+use Rattle.std.specs.Ordering.{is_lt}
+
+-- whether the first value is below the second, by what a comparison answers; that they are the same is std's `eq_by_cmp`
+abbrev pub below_by : {X : Type 0} → (X → X → Ordering) → X → X → Bool
+below_by cmp x y = is_lt (cmp x y)
+
+-- two tests answer alike of all values
+abbrev pub AnswerAlike : {X : Type 0} → (X → X → Bool) → (X → X → Bool) → Type 0
+AnswerAlike {X} test other = (x y : X) → test x y ≡ other x y
 
 -- exactly one of three tests holds
 abbrev pub ExactlyOne : Bool → Bool → Bool → Type 0

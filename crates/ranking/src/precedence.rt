@@ -4,13 +4,13 @@ ghost use Rattle.job.specs.Records.{job_of};
 ghost use Rattle.ranking.specs.Keys.{sheet_key, urgency_key};
 ghost use Rattle.ranking.specs.Standings.{standing_of};
 
-use crate::order::Order;
 use crate::standing::Standing;
 use job::record::JobRecord;
 
-// A key for each job, from its record and its number alone, in an order of keys.
+// A key for each job, from its record and its number alone, in the keys' own order.
+// A record lies in its table and its number is its place there: a struct of both would be made only for a call.
 pub trait Precedence {
-    type Key: Order + Copy;
+    type Key: Ord + Copy;
 
     ghost keyed: { Self → Job → ℕ → Self.Key };
 
@@ -32,7 +32,7 @@ impl Precedence for SheetOrder {
     }
 }
 
-// Jobs by urgency, and by their count of points where the urgencies are equal.
+// Jobs by urgency, and by their count of points, at most 8, where the urgencies are equal.
 #[derive(Clone, Copy)]
 pub struct UrgencyOrder;
 
@@ -42,7 +42,7 @@ impl Precedence for UrgencyOrder {
     ghost keyed = { λ _. urgency_key };
 
     fn key(&self, job: &JobRecord, _number: u8) -> (u8, u8) {
-        (job.urgency(), job.points().len() as u8)
+        (job.urgency(), u8::try_from(job.points().len()).unwrap())
     }
 }
 

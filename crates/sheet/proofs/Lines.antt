@@ -1,15 +1,14 @@
 -- The lines of a sheet, one by one.
-use Rattle.std.proofs.Common.{◌≡◌, ℕ, ◌+◌, true, false, List, [], ◌∷◌, ◌++◌, length, Ok, Err, Result, sym, refl, ap, ◌∙◌, subst, arith}
+use Rattle.std.proofs.Common.{◌≡◌, ℕ, ◌+◌, true, false, List, [], ◌∷◌, ◌++◌, length, Ok, Err, Result, sym, refl, ap, ◌∙◌, subst}
 use Rattle.wiring.specs.declared.wire.Wire.{Wire}
 use Rattle.job.specs.Plain.{Job}
-use Rattle.spelling.specs.declared.column.Column.{Column}
 use Rattle.spelling.specs.declared.fault.LineFault.{LineFault}
 use Rattle.spelling.specs.declared.fault.LineFault.TheVariants.{WireNames}
 use Rattle.spelling.specs.declared.fault.SheetFault.{SheetFault}
 use Rattle.spelling.specs.declared.fault.SheetFault.TheVariants.{AtLine}
-use Rattle.spelling.specs.Lines.{names, wire_line}
-use Rattle.spelling.specs.Sheet.{Tables, wire_names, read, read_lines, jobs_from, wires_part, wires_from}
-use Rattle.spelling.specs.Texts.{Pieces, more, cut, same}
+use Rattle.spelling.specs.Lines.{wire_line}
+use Rattle.spelling.specs.Sheet.{Tables, wire_names, wires_part, wires_from}
+use Rattle.spelling.specs.Texts.{Pieces, more, same}
 use Rattle.fields.specs.Reading.{placed}
 use Rattle.sheet.specs.Tables.{Adds, Takes, Leaves}
 
@@ -42,8 +41,3 @@ module _ (js : List Job) (p q : Pieces) (l : List ℕ) (line : p ≡ more l q) w
 
   pub part_right : (ws : List Wire) → true ≡ same l wire_names → ws ≡ [] → wires_from js ws q ≡ wires_part js p
   part_right ws s e = rw (e, line, ← s)
-
--- ## The whole sheet
-pub sheet_is : (bytes l : List ℕ) (q : Pieces) (cs order : List Column) (js : List Job) → (length bytes ≡ 0 → ⊥) → cut 10 bytes ≡ more l q → names l ≡ Ok cs → order ≡ cs → js ≡ [] → jobs_from order js q ≡ read bytes
-sheet_is [] l q cs order js some c n o e = absurd (some refl)
-sheet_is (b ∷ bs) l q cs order js some c n o e = rw (o, e) (sym (ap read_lines c ∙ rw n))

@@ -1,5 +1,5 @@
 -- The promises of reading, at one sheet.
-use Rattle.std.proofs.Common.{◌≡◌, ℕ, List, Ok, Err, arith}
+use Rattle.std.proofs.Common.{◌≡◌, ℕ, List, Ok, Err}
 use Rattle.spelling.specs.declared.fault.SheetFault.{SheetFault}
 use Rattle.spelling.specs.declared.fault.SheetFault.TheVariants.{NoBytes, AtLine}
 use Rattle.spelling.specs.Sheet.{Tables, read}

@@ -7,19 +7,17 @@ use Rattle.std.specs.List.{list_all}
 use Rattle.job.specs.declared.fault.FieldFault.{FieldFault}
 use Rattle.wiring.specs.declared.fault.WireFault.{WireFault}
 use Rattle.wiring.specs.declared.wire.Wire.{Wire}
-use Rattle.job.specs.Admitted.{no_record}
-use Rattle.fixed.specs.Lists.{distinct}
 use Rattle.job.specs.Plain.{Job}
-use Rattle.fixed.specs.Results.{and_then, or_else, given}
+use Rattle.fixed.specs.Results.{and_then, or_else}
 use Rattle.wiring.specs.Wires.{wired}
 use Rattle.fixed.proofs.Pushing.{by_bool}
 use Rattle.spelling.specs.declared.fault.LineFault.{LineFault}
-use Rattle.spelling.specs.declared.fault.LineFault.TheVariants.{AtField, PointTwice}
+use Rattle.spelling.specs.declared.fault.LineFault.TheVariants.{AtField}
 use Rattle.spelling.specs.Faults.{wire_fault}
 use Rattle.spelling.specs.declared.column.Column.{Column}
 use Rattle.spelling.specs.declared.column.Column.TheVariants.{Proc, Arg, Urg, Points}
 use Rattle.spelling.specs.Fields.{letter, number}
-use Rattle.spelling.specs.Lines.{put, fields, split, job_line, wire_fields, wire_line}
+use Rattle.spelling.specs.Lines.{put, fields, split, wire_fields, wire_line}
 use Rattle.spelling.specs.Texts.{cut, all_of, empty}
 use Rattle.fields.specs.Fields.{Reads}
 use Rattle.fields.specs.Reading.{head_of, tail_of, placed}
@@ -75,10 +73,6 @@ pub split_ok : (n : ℕ) (l : List ℕ) → Ok (tt {0}) ≡ and_then (split n l)
 split_ok n l h = by_bool (eqb (length (all_of (cut 32 l))) n && list_all (λ (t : List ℕ). not (empty t)) (all_of (cut 32 l)))
     (λ e. (rw e, eqb-true _ _ (and_parts _ _ e).0))
     (λ e. let k = rw e at h in absurd cc)
-
-pub job_line_is : (order : List Column) (js : List Job) (l : List ℕ) → leb 64 (length js) ≡ false → split 4 l ≡ Ok (all_of (cut 32 l)) →
-    job_line order js l ≡ and_then (fields order (all_of (cut 32 l)) 1 no_record) (λ j. given (distinct j.points) PointTwice (Ok j))
-job_line_is order js l h s = rw (lt-ltb (length js) 64 (leb-false _ _ h), s)
 
 pub wire_line_is : (ws : List Wire) (l : List ℕ) → leb 256 (length ws) ≡ false → split 3 l ≡ Ok (all_of (cut 32 l)) →
     wire_line ws l ≡ and_then (wire_fields (all_of (cut 32 l))) (λ w. or_else (wired ws w) wire_fault)
