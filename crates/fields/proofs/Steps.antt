@@ -1,14 +1,26 @@
 -- The steps of the reader.
-use Rattle.std.proofs.Common.{◌≡◌, ℕ, ◌+◌, ◌-◌, ◌<◌, ◌≤◌, Bool, true, false, cond, eqb, List, [], ◌∷◌, length, get_or, take, drop, Decides, sym, refl, ap, ◌∙◌, add-one, arith, length-drop, rules}
+use Rattle.std.proofs.Common.{◌≡◌, ℕ, ◌+◌, ◌<◌, ◌≤◌, Bool, false, cond, not, eqb, ltb, List, [], ◌∷◌, length, get_or, take, drop, count_by, sym, refl, ap, ◌∙◌, add-one, arith}
 use lib.Seq.{split_at}
+use Rattle.std.proofs.Math.Numerals.{one-add}
 use Rattle.std.proofs.ByRecursion.{All-more}
-use Rattle.std.proofs.lemmas.Slice.Eq.{compares_Decides}
-use Rattle.std.proofs.lemmas.List.{take_all, take_rest, drop-drop}
-use Rattle.std.proofs.lemmas.Bool.{ne_eqb}
-use Rattle.spelling.specs.Texts.{Pieces, last, more, cut, all_of, same}
+use Rattle.std.proofs.lemmas.List.{take_all}
+use Rattle.std.proofs.lemmas.Bool.{ne_eqb, eqb-true, ltb-true, ltb-false}
+use Rattle.std.proofs.lemmas.List.Sums.{passes_at_first}
+use Rattle.std.proofs.lemmas.List.Splits.{length-slice_split}
+use Rattle.std.proofs.lemmas.Iterator.{YieldsList}
+use Rattle.std.proofs.lemmas.Iterator.Splits.{YieldsList-from_slice_split}
+use Rattle.std.specs.Borrow.{Bor}
+use Rattle.std.specs.Fn.{CalledAt}
+use Rattle.std.specs.Slice.Iter.{split_rest, split_done, split_callee, split_steps}
+use Rattle.std.specs.declared.slice.Split.{Split}
+use denote.Param.Members.{Mut}
+use Rattle.std.specs.List.{position, position_or_len, slice_split, onto_first, list_all}
+use Rattle.std.specs.Cmp.Lexicographic.{pointwise}
+use Rattle.fixed.proofs.Pushing.{by_bool}
+use Rattle.spelling.specs.Texts.{Pieces, last, more, onto, cut, all_of, same, empty}
 use Rattle.spelling.proofs.Basics.{Free, cut_more, cut_last}
 use Rattle.fields.specs.declared.reader.Reader.{Reader}
-use Rattle.fields.specs.Reading.{rest_of, pieces_of}
+use Rattle.fields.specs.Reading.{Ends, rest_of, pieces_of}
 
 -- ## The first separator
 pub ends_here : (c : ℕ) (t : List ℕ) (i : ℕ) → i < length t → Free c (take i t) → get_or t i 0 ≡ c → cut c t ≡ more (take i t) (cut c (drop (i + 1) t))
@@ -20,23 +32,16 @@ free_more c t i h f n = All-more (λ b. eqb b c ≡ false) t i 0 h f (ne_eqb (ge
 pub ends_last : (c : ℕ) (t : List ℕ) (i : ℕ) → length t ≤ i → Free c (take i t) → cut c t ≡ last t
 ends_last c t i h f = cut_last c t (rw (take_all i t) at f)
 
--- ## A piece of the bytes from a place on
--- where a separator stands j bytes behind the place, as the code cuts the bytes there
-pub piece_ends : (c : ℕ) (s : List ℕ) (p j : ℕ) → (let t = take (length s - p) (drop p s) in (j < length t) × (cut c t ≡ more (take j t) (cut c (drop (j + 1) t)))) →
-    (cut c (drop p s) ≡ more (take (p + j - p) (drop p s)) (cut c (drop (p + j + 1) s))) × (p + j < length s)
-piece_ends c s p j h =
-    let (l, e) = rw (take_rest s p) at h in
-    let k = simp length-drop at l in
-    let q : p + j - p ≡ j = omega arith in
-    let d : drop (j + 1) (drop p s) ≡ drop (p + j + 1) s = drop-drop (j + 1) p s ∙ ap (λ n. drop n s) (omega arith) in
-    (rw (q, ← d) e, omega arith)
+free_before : (c : ℕ) (t : List ℕ) → Free c (take (position_or_len (λ b. eqb b c) t) t)
+free_before c [] = tt
+free_before c (b ∷ t) = by_bool (eqb b c) (λ e. rw e tt) (λ e. rw (e, one-add) (e, free_before c t))
 
-pub piece_last : (c : ℕ) (s : List ℕ) (p : ℕ) → (let t = take (length s - p) (drop p s) in cut c t ≡ last t) → cut c (drop p s) ≡ last (drop p s)
-piece_last c s p h = rw (take_rest s p) at h
-
--- what is left behind a piece is shorter
-pub rest_shorter : (s : List ℕ) (p j : ℕ) → p + j < length s → length (drop (p + j + 1) s) < length (drop p s)
-rest_shorter s p j h = simp length-drop (omega arith)
+pub ends_first : (c : ℕ) (t : List ℕ) → Ends c t (position (λ b. eqb b c) t)
+ends_first c t =
+    let n = position_or_len (λ b. eqb b c) t in
+    by_bool (ltb n (length t))
+    (λ e. let l = ltb-true n (length t) e in rw e (l, ends_here c t n l (free_before c t) (eqb-true _ _ (passes_at_first (λ b. eqb b c) t 0 l))))
+    (λ e. rw e (ends_last c t n (ltb-false n (length t) e) (free_before c t)))
 
 -- what is left of the pieces, when the first of them is ended and when it is the last
 pub next_more : {p q : Pieces} {l : List ℕ} (done : Bool) → done ≡ false → p ≡ more l q → cond done [] (all_of p) ≡ l ∷ cond done [] (all_of q)
@@ -46,16 +51,36 @@ pub next_last : {p : Pieces} {l t : List ℕ} (done : Bool) → done ≡ false �
 next_last done e k h = rw (e, h, k)
 
 -- ## Texts that are the same
-same_decides : (xs ys : List ℕ) → Decides (same xs ys) (xs ≡ ys)
-same_decides = compares_Decides same (search rules)
+-- the library's test of two texts
+pub same_eq : (xs ys : List ℕ) → pointwise eqb xs ys ≡ same xs ys
+same_eq [] [] = refl
+same_eq [] (y ∷ ys) = refl
+same_eq (x ∷ xs) [] = refl
+same_eq (x ∷ xs) (y ∷ ys) = rw (same_eq xs ys)
 
-pub decided_same : (xs ys : List ℕ) (r : Bool) → Decides r (xs ≡ ys) → r ≡ same xs ys
-decided_same xs ys r h = let d = same_decides xs ys in go r (same xs ys) h d
-  where
-    go : {P : Type 0} (a b : Bool) → Decides a P → Decides b P → a ≡ b
-    go true b p q = sym (q.1 (p.0 refl))
-    go false true p q = p.1 (q.0 refl)
-    go false false p q = refl
+-- the library's pieces
+split_onto : (b : ℕ) (p : Pieces) → onto_first b (all_of p) ≡ all_of (onto b p)
+split_onto b (last l) = refl
+split_onto b (more l p) = refl
+
+pub split_cut : (c : ℕ) (t : List ℕ) → slice_split (λ b. eqb b c) t ≡ all_of (cut c t)
+split_cut c [] = refl
+split_cut c (b ∷ t) = by_bool (eqb b c) (λ e. rw (e, split_cut c t)) (λ e. rw (e, split_cut c t, split_onto b (cut c t)))
+
+pub pieces_count : (c : ℕ) (t : List ℕ) → count_by (λ b. eqb b c) t + 1 ≡ length (all_of (cut c t))
+pieces_count c t = rw (← split_cut c t) (sym (length-slice_split (λ b. eqb b c) t))
+
+pub yields_pieces : {F : Type 0} {s : Split ℕ F} (g : Mut F (Bor ℕ × Unit {0}) Bool) (c : ℕ) {f : F} (t : List ℕ) → split_rest s ≡ t → split_done s ≡ false → split_callee s ≡ f →
+    ((x : ℕ) (b : Bool) (q : F) → CalledAt g f x b q → (q ≡ f) × (b ≡ eqb x c)) → YieldsList (split_steps g) (λ x. x.now) s (all_of (cut c t))
+yields_pieces g c t r d p h = rw (← split_cut c t) (YieldsList-from_slice_split g (λ b. eqb b c) t r d p h)
+
+empty_length : (t : List ℕ) → eqb (length t) 0 ≡ empty t
+empty_length [] = refl
+empty_length (b ∷ t) = ne_eqb (length (b ∷ t)) 0 (λ e. omega arith)
+
+pub some_in_each : (ts : List (List ℕ)) → list_all (λ t. not (eqb (length t) 0)) ts ≡ list_all (λ t. not (empty t)) ts
+some_in_each [] = refl
+some_in_each (t ∷ ts) = rw (empty_length t, some_in_each ts)
 
 -- a reader that has handed on nothing yet
 pub fresh_pieces : (c : ℕ) (r : Reader) (t : List ℕ) → rest_of r ≡ t → r.done ≡ false → pieces_of c r ≡ all_of (cut c t)

@@ -39,6 +39,10 @@ abbrev pub tail_of : List (List ℕ) → List (List ℕ)
 tail_of [] = []
 tail_of (t ∷ ts) = ts
 
+-- a field was handed on, or none was left
+abbrev pub PastField : Reader → Reader → Type 0
+PastField r r' = (pieces_of 32 r' ≡ tail_of (pieces_of 32 r)) × Walks r r'
+
 -- the next line of the bytes t, if it has its end, and what is left behind it
 abbrev pub NextLine : List ℕ → Option (Bor (List ℕ)) → List ℕ → Type 0
 NextLine t r t' = options.MatchOption r ((cut 10 t ≡ last t) × (t' ≡ t)) (λ l. (cut 10 t ≡ more l.now (cut 10 t')) × (length t' < length t))

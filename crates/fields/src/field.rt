@@ -1,9 +1,9 @@
 ghost use Rattle.std.specs.Prelude.{◌≡◌};
 ghost use Rattle.spelling.specs.Fields.{known, letter as letter_of, number as number_of};
-ghost use Rattle.fields.specs.Reading.{pieces_of, head_of, tail_of, Walks};
+ghost use Rattle.fields.specs.Reading.{pieces_of, head_of, PastField};
 ghost use Rattle.fields.specs.Fields.{Reads};
 
-use crate::number::number;
+use crate::number::{byte, number};
 use crate::reader::Reader;
 use job::fault::FieldFault;
 use spelling::column::Column;
@@ -32,7 +32,7 @@ fn letter(text: &[u8]) -> Result<char, FieldFault>
     ensures { result ≡ letter_of text.now }
 {
     match text {
-        [b] => known_letter(*b as char),
+        [b] => known_letter(char::from(*b)),
         _ => Err(FieldFault::UnknownLetter),
     }
 }
@@ -41,20 +41,15 @@ impl<'a> Reader<'a> {
     // The next field between spaces; where none is left, an empty one.
     fn field_text(&mut self) -> &'a [u8]
         ensures text { result.now ≡ head_of (pieces_of 32 self.old) }
-        ensures left { pieces_of 32 self.new ≡ tail_of (pieces_of 32 self.old) }
-        ensures kept { Walks self.old self.new }
+        ensures past { PastField self.old self.new }
     {
-        match self.piece(b' ') {
-            Some(text) => text,
-            None => &[],
-        }
+        self.piece(b' ').unwrap_or_default()
     }
 
     // The next field, as one of this column.
     pub fn field(&mut self, column: Column) -> Result<Field<'a>, FieldFault>
         ensures reads { Reads column (head_of (pieces_of 32 self.old)) self.old.place result }
-        ensures left { pieces_of 32 self.new ≡ tail_of (pieces_of 32 self.old) }
-        ensures kept { Walks self.old self.new }
+        ensures past { PastField self.old self.new }
     {
         let offset = self.place();
         let text = self.field_text();
@@ -69,9 +64,16 @@ impl<'a> Reader<'a> {
     // The next field, as a number of at most `top`.
     pub fn number(&mut self, top: u32) -> Result<u32, FieldFault>
         ensures reads { result ≡ number_of top (head_of (pieces_of 32 self.old)) }
-        ensures left { pieces_of 32 self.new ≡ tail_of (pieces_of 32 self.old) }
-        ensures kept { Walks self.old self.new }
+        ensures past { PastField self.old self.new }
     {
         number(self.field_text(), top)
+    }
+
+    // The next field, as a number of at most 255.
+    pub fn byte(&mut self) -> Result<u8, FieldFault>
+        ensures reads { result ≡ number_of 255 (head_of (pieces_of 32 self.old)) }
+        ensures past { PastField self.old self.new }
+    {
+        byte(self.field_text())
     }
 }

@@ -4,6 +4,7 @@
 pub mod field;
 pub mod names;
 pub mod number;
+pub mod order;
 pub mod place;
 pub mod points;
 pub mod reader;

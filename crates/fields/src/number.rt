@@ -1,16 +1,10 @@
-ghost use Rattle.std.specs.Prelude.{◌≡◌};
+ghost use Rattle.std.specs.Prelude.{◌≡◌, ◌&&◌, fold};
+ghost use Rattle.std.specs.Char.{is_ascii_digit};
+ghost use Rattle.std.specs.List.{list_all};
 ghost use Rattle.spelling.specs.Fields.{number as number_of, plain};
-ghost use Rattle.fields.specs.Fields.{Written};
+ghost use Rattle.fields.specs.Fields.{Written, read_on};
 
 use job::fault::FieldFault;
-
-// A number of at most `top`, in base-ten digits without leading zeros: exactly what one writes for it is read.
-pub fn number(text: &[u8], top: u32) -> Result<u32, FieldFault>
-    ensures value { result ≡ number_of top text.now }
-    ensures written { Written top text.now result }
-{
-    parse(text, top)
-}
 
 // Whether a text has no leading zero: it is not empty, and begins with 0 only as a single digit.
 fn is_plain(text: &[u8]) -> bool
@@ -23,28 +17,41 @@ fn is_plain(text: &[u8]) -> bool
     }
 }
 
-fn parse(text: &[u8], top: u32) -> Result<u32, FieldFault>
-    ensures { result ≡ number_of top text.now }
+// Whether a text is what one may write for a number: digits without leading zeros.
+fn is_numeral(text: &[u8]) -> bool
+    ensures { result ≡ (list_all is_ascii_digit text.now && plain text.now) }
 {
-    let most = top as u64;
-    let mut n: u64 = 0;
-    for b in text {
-        if *b < b'0' {
-            return Err(FieldFault::NoNumber);
-        }
-        if *b > b'9' {
-            return Err(FieldFault::NoNumber);
-        }
-        // once above the top it stays there, so that no text is too long
-        if n <= most {
-            n = n * 10 + (*b - b'0') as u64;
-        }
-    }
-    if !is_plain(text) {
+    text.iter().all(u8::is_ascii_digit) && is_plain(text)
+}
+
+// What some digits write, at most the greatest number: so no text is too long.
+fn value(digits: &[u8]) -> u64
+    ensures { result ≡ fold read_on 0 digits.now }
+{
+    digits.iter().fold(0, |n: u64, b| {
+        let digit = b.saturating_sub(b'0');
+        n.saturating_mul(10).saturating_add(u64::from(digit))
+    })
+}
+
+// A number of at most `top`, in base-ten digits without leading zeros: exactly what one writes for it is read.
+pub fn number(text: &[u8], top: u32) -> Result<u32, FieldFault>
+    ensures value { result ≡ number_of top text.now }
+    ensures written { Written top text.now result }
+{
+    if !is_numeral(text) {
         return Err(FieldFault::NoNumber);
     }
-    if n > most {
-        return Err(FieldFault::AboveRange(top));
+    match u32::try_from(value(text)) {
+        Ok(n) if n <= top => Ok(n),
+        _ => Err(FieldFault::AboveRange(top)),
     }
-    Ok(n as u32)
+}
+
+// A number of at most 255.
+pub fn byte(text: &[u8]) -> Result<u8, FieldFault>
+    ensures { result ≡ number_of 255 text.now }
+{
+    let n = number(text, 255)?;
+    u8::try_from(n).map_err(|_| FieldFault::AboveRange(255))
 }

@@ -5,8 +5,5 @@ ghost use Rattle.fields.specs.Reading.{placed};
 pub fn at<T, E>(place: usize, r: Result<T, E>) -> Result<T, (usize, E)>
     ensures { result ≡ placed place r }
 {
-    match r {
-        Ok(x) => Ok(x),
-        Err(e) => Err((place, e)),
-    }
+    r.map_err(|e| (place, e))
 }

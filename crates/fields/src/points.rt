@@ -4,9 +4,8 @@ ghost use Rattle.fixed.specs.Results.{Means};
 ghost use Rattle.spelling.specs.Fields.{number as number_of, points as points_of};
 ghost use Rattle.spelling.specs.Texts.{all_of, cut, each};
 
-use crate::number::number;
-use crate::reader::Reader;
-use crate::shape::{at_most, is_text};
+use crate::number::byte;
+use crate::shape::at_most;
 use fixed::list::FixedList;
 use job::fault::FieldFault;
 
@@ -15,20 +14,19 @@ fn listed(text: &[u8]) -> Result<FixedList<u8, 8>, FieldFault>
     requires { length (all_of (cut 44 text.now)) ≤ 8 }
     ensures { Means list_of (each (number_of 255) (all_of (cut 44 text.now))) result }
 {
-    let mut reader = Reader::new(text);
     let mut list = FixedList::new(0);
-    while let Some(piece) = reader.piece(b',') {
-        let point = number(piece, 255)?;
-        let _ = list.push(point as u8);
+    for piece in text.split(|b| *b == b',') {
+        let _ = list.push(byte(piece)?);
     }
     Ok(list)
 }
 
 // The points of a job: `-` for none, or up to 8 numbers with commas between them.
+#[tactic(auto, using(crate::proofs::Steps::same_eq))]
 pub fn points(text: &[u8]) -> Result<FixedList<u8, 8>, FieldFault>
     ensures { Means list_of (points_of text.now) result }
 {
-    if is_text(text, b"-") {
+    if text == b"-".as_slice() {
         return Ok(FixedList::new(0));
     }
     if !at_most(text, b',', 8) {

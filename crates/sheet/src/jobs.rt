@@ -4,35 +4,38 @@ ghost use Rattle.job.specs.Records.{jobs_of};
 ghost use Rattle.fixed.specs.Results.{Means};
 ghost use Rattle.spelling.specs.Lines.{fields, job_line};
 ghost use Rattle.spelling.specs.Texts.{all_of, cut};
+ghost use Rattle.fields.specs.Order.{columns_of};
 ghost use Rattle.sheet.specs.Tables.{Takes};
 ghost use Rattle.sheet.specs.Values.{values_of};
 
 use crate::values::Values;
+use fields::order::ColumnOrder;
 use fields::place::at;
 use fields::reader::Reader;
 use fields::shape::expect_fields;
 use job::table::JobTable;
-use spelling::column::Column;
 use spelling::fault::LineFault;
 
 // The four fields of a job line, which stand in the order of the columns.
-fn job_fields(order: &[Column], line: &[u8]) -> Result<Values, LineFault>
-    requires order { length order.now ≡ 4 }
-    requires shape { length (all_of (cut 32 line.now)) ≡ 4 }
-    ensures { Means values_of (fields order.now (all_of (cut 32 line.now)) 1 no_record) result }
+fn job_fields(order: &ColumnOrder, line: &[u8]) -> Result<Values, LineFault>
+    requires { length (all_of (cut 32 line.now)) ≡ 4 }
+    ensures { Means values_of (fields (columns_of order.now) (all_of (cut 32 line.now)) 1 no_record) result }
 {
     let mut reader = Reader::new(line);
     let mut values = Values::none();
-    for (i, column) in order.iter().enumerate() {
+    for (i, column) in order.columns().iter().enumerate() {
         at(i + 1, values.put(*column, &mut reader))?;
     }
     Ok(values)
 }
 
 // Takes the job of a line into the table.
-pub(crate) fn take_job(order: &[Column], line: &[u8], jobs: &mut JobTable) -> Result<(), LineFault>
-    requires { length order.now ≡ 4 }
-    ensures { Takes (job_line order.now (jobs_of jobs.old) line.now) (jobs_of jobs.old) result (jobs_of jobs.new) }
+pub(crate) fn take_job(
+    order: &ColumnOrder,
+    line: &[u8],
+    jobs: &mut JobTable,
+) -> Result<(), LineFault>
+    ensures { Takes (job_line (columns_of order.now) (jobs_of jobs.old) line.now) (jobs_of jobs.old) result (jobs_of jobs.new) }
 {
     if jobs.is_full() {
         return Err(LineFault::TooManyJobs);

@@ -5,17 +5,17 @@ ghost use Rattle.spelling.specs.declared.fault.SheetFault.TheVariants.{AtLine};
 ghost use Rattle.job.specs.Records.{jobs_of};
 ghost use Rattle.spelling.specs.Sheet.{read as read_of, jobs_from, wires_part, wires_from};
 ghost use Rattle.spelling.specs.Texts.{cut, empty};
+ghost use Rattle.fields.specs.Order.{columns_of};
 ghost use Rattle.fields.specs.Reading.{rest_of};
 ghost use Rattle.sheet.specs.Tables.{Leaves, Follows, Read, Spells, Faults};
 
 use crate::jobs::take_job;
 use crate::wires::take_wire;
 use fields::names::names;
+use fields::order::ColumnOrder;
 use fields::place::at;
 use fields::reader::Reader;
-use fields::shape::is_text;
 use job::table::JobTable;
-use spelling::column::Column;
 use spelling::fault::{LineFault, SheetFault};
 use wiring::table::WireTable;
 
@@ -57,6 +57,7 @@ fn wire_lines(
 }
 
 // The wires' part, behind the empty line: its names, and then the wires.
+#[tactic(auto, using(fields::proofs::Steps::same_eq))]
 fn wire_part(
     reader: &mut Reader<'_>,
     jobs: &JobTable,
@@ -68,7 +69,7 @@ fn wire_part(
     let Some(line) = reader.line() else {
         return Err(SheetFault::AtLine(3 + jobs.len(), LineFault::WireNames));
     };
-    if !is_text(line, b"from to delay") {
+    if line != b"from to delay".as_slice() {
         return Err(SheetFault::AtLine(3 + jobs.len(), LineFault::WireNames));
     }
     wire_lines(reader, jobs, wires)
@@ -77,11 +78,10 @@ fn wire_part(
 // The jobs, up to the empty line before the wires' part, or up to the end of the sheet; whether the wires' part follows.
 fn job_lines(
     reader: &mut Reader<'_>,
-    order: &[Column],
+    order: &ColumnOrder,
     jobs: &mut JobTable,
 ) -> Result<bool, SheetFault>
-    requires { length order.now ≡ 4 }
-    ensures { Follows (jobs_from order.now (jobs_of jobs.old) (cut 10 (rest_of reader.old))) result (jobs_of jobs.new) (cut 10 (rest_of reader.new)) }
+    ensures { Follows (jobs_from (columns_of order.now) (jobs_of jobs.old) (cut 10 (rest_of reader.old))) result (jobs_of jobs.new) (cut 10 (rest_of reader.new)) }
 {
     while let Some(line) = reader.line() {
         if line.is_empty() {
@@ -112,7 +112,7 @@ fn read_lines(sheet: &[u8], jobs: &mut JobTable, wires: &mut WireTable) -> Resul
         return Err(SheetFault::AtLine(1, LineFault::JobNames));
     };
     let order = at(1, names(line))?;
-    if job_lines(&mut reader, order.as_slice(), jobs)? {
+    if job_lines(&mut reader, &order, jobs)? {
         return wire_part(&mut reader, jobs, wires);
     }
     Ok(())

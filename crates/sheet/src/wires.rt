@@ -16,14 +16,10 @@ fn three_fields(line: &[u8]) -> Result<Wire, LineFault>
     ensures { result ≡ wire_fields (all_of (cut 32 line.now)) }
 {
     let mut reader = Reader::new(line);
-    let from = at(1, reader.number(255))?;
-    let to = at(2, reader.number(255))?;
+    let from = at(1, reader.byte())?;
+    let to = at(2, reader.byte())?;
     let delay = at(3, reader.number(u32::MAX))?;
-    Ok(Wire {
-        from: from as u8,
-        to: to as u8,
-        delay,
-    })
+    Ok(Wire { from, to, delay })
 }
 
 // Takes the wire of a line into the table.

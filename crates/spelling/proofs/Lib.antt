@@ -1,4 +1,5 @@
 pub mod Basics
+pub mod Named
 pub mod Values
 pub mod Lines
 pub mod Ordered

@@ -7,12 +7,7 @@ use crate::reader::Reader;
 fn find(bytes: &[u8], separator: u8) -> Option<usize>
     ensures { Ends separator bytes.now result }
 {
-    for (i, b) in bytes.iter().enumerate() {
-        if *b == separator {
-            return Some(i);
-        }
-    }
-    None
+    bytes.iter().position(|b| *b == separator)
 }
 
 impl<'a> Reader<'a> {
@@ -35,24 +30,23 @@ impl<'a> Reader<'a> {
         self.place
     }
 
-    // The next line that has its end.
-    pub fn line(&mut self) -> Option<&'a [u8]>
-        ensures next { NextLine (rest_of self.old) result (rest_of self.new) }
-        ensures kept { Passes self.old self.new }
-    {
-        let bytes = self.bytes;
-        let start = self.place;
-        let end = find(&bytes[start..], b'\n')?;
-        self.place = start + end + 1;
-        Some(&bytes[start..start + end])
-    }
-
     // What is left.
     pub fn rest(&self) -> &'a [u8]
         ensures { result.now ≡ rest_of self.now }
     {
         let bytes = self.bytes;
         &bytes[self.place..]
+    }
+
+    // The next line that has its end.
+    pub fn line(&mut self) -> Option<&'a [u8]>
+        ensures next { NextLine (rest_of self.old) result (rest_of self.new) }
+        ensures kept { Passes self.old self.new }
+    {
+        let rest = self.rest();
+        let end = find(rest, b'\n')?;
+        self.place += end + 1;
+        Some(&rest[..end])
     }
 
     // The next piece between separators, or what is left behind the last of them; then nothing more.
@@ -63,17 +57,12 @@ impl<'a> Reader<'a> {
         if self.done {
             return None;
         }
-        let bytes = self.bytes;
-        let start = self.place;
-        match find(&bytes[start..], separator) {
-            Some(end) => {
-                self.place = start + end + 1;
-                Some(&bytes[start..start + end])
-            }
-            None => {
-                self.done = true;
-                Some(&bytes[start..])
-            }
-        }
+        let rest = self.rest();
+        let Some(end) = find(rest, separator) else {
+            self.done = true;
+            return Some(rest);
+        };
+        self.place += end + 1;
+        Some(&rest[..end])
     }
 }

@@ -1,12 +1,10 @@
-use Rattle.std.proofs.Common.{arith}
-use Rattle.fields.proofs.Steps.{ends_here, free_more, ends_last}
+use Rattle.std.proofs.Common.{eqb, rules, tests}
+use Rattle.std.proofs.lemmas.Iterator.{YieldsList-from_slice}
+use Rattle.std.proofs.lemmas.Iterator.Search.{position_from_yields_List}
+use Rattle.fields.proofs.Steps.{ends_first}
 use Rattle.fields.proofs.reader.calls.find.Goals as goal
 
-pub returns-then-b-separator : goal.returns-then-b-separator
-returns-then-b-separator c = (omega arith, ends_here c.args.separator c.args.bytes.now c.loop-i.i (omega arith) c.loop-i.invariant c.if-b-separator.true)
-
-pub loop-i-preserved : goal.loop-i-preserved
-loop-i-preserved c = free_more c.args.separator c.args.bytes.now c.loop-i.i (omega arith) c.loop-i.invariant c.if-b-separator.false
-
 pub returns : goal.returns
-returns c = ends_last c.args.separator c.args.bytes.now c.loop-i.i (omega arith) c.loop-i.invariant
+returns c =
+    let e = position_from_yields_List (λ b. eqb b c.args.separator) _ _ c.position.result c.position.ensures.ran (YieldsList-from_slice c.args.bytes.now cc) (λ x b q k. search (rules, tests)) in
+    rw e (ends_first c.args.separator c.args.bytes.now)

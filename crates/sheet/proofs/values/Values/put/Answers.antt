@@ -11,5 +11,5 @@ returns-in_err-letter c =
     let f = c.in_err-letter.ensures in
     record {
       puts = rw (p.1, p.2) (put_refused c.args.column (head_of (pieces_of 32 c.args.reader.now)) c.args.reader.now.place (values_of c.args.self.now) c.in_err-letter.field-0.0 f.reads, refl);
-      left = f.left;
+      left = f.past.0;
     }

@@ -1,8 +1,0 @@
-use Rattle.std.proofs.Common.{◌≡◌, true, take}
-use Rattle.std.specs.Str.{all_ascii_digits}
-use Rattle.std.specs.Str.Parse.{digits_value}
-use Rattle.fields.proofs.Numbers.{Near}
-use Rattle.fields.proofs.number.parse.Given as goal
-
-abbrev pub invariant-loop-b : goal.invariant-loop-b
-invariant-loop-b l = (all_ascii_digits (take l.b-index l.text) ≡ true) × Near l.top l.n (digits_value 10 (take l.b-index l.text))
