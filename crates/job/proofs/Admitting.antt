@@ -1,15 +1,12 @@
 -- Parts that are checked one by one make an admitted job.
-use Rattle.std.proofs.Common.{◌≡◌, ℕ, ◌<◌, ◌≤◌, Bool, true, false, leb, List, length, get_or, take, drop, Ok, Err, Result, sym, ap, ◌∙◌, arith}
-use Rattle.std.proofs.lemmas.List.{take_all, at_drop_all}
-use Rattle.std.proofs.lemmas.Bool.{le-leb, lt-leb}
+use Rattle.std.proofs.Common.{◌≡◌, ℕ, ◌≤◌, Bool, true, false, leb, List, length, Ok, Err, Result, sym, ap, arith}
+use Rattle.std.proofs.lemmas.Bool.{le-leb}
 use Rattle.std.specs.List.{list_all}
-use Rattle.job.specs.declared.fault.FieldFault.TheVariants.{AboveRange}
 use Rattle.job.specs.declared.fault.JobFault.TheVariants.{Field, PointTwice}
 use Rattle.job.specs.Admitted.{letter_within, urgency_within, points_within, admitted, assembled}
 use Rattle.fixed.specs.Lists.{distinct}
 use Rattle.job.specs.Plain.{Job}
 use Rattle.fixed.specs.Results.{given, and_then, or_else}
-use Rattle.fixed.proofs.Scans.{every_fails}
 
 -- what a test lets pass is unchanged
 pub passes_same : {A E : Type 0} (b : Bool) (e : E) (x y : A) → Ok y ≡ given b e (Ok x) → y ≡ x
@@ -25,13 +22,6 @@ module _ (l a u : ℕ) (ps : List ℕ) (m v : ℕ) where
 
   pub assembled_whole : Ok m ≡ letter_within l → Ok v ≡ urgency_within u → distinct ps ≡ true → assembled (record { letter = l; argument = a; urgency = u; points = ps }) ≡ Ok (record { letter = m; argument = a; urgency = v; points = ps })
   assembled_whole p q d = rw (← p, ← q, d) (ap Ok (same_job l m a u v ps (sym (passes_same _ _ l m p)) (sym (passes_same _ _ u v q))))
-
-module _ (ps : List ℕ) (i : ℕ) where
-  pub bounded_fails : length ps ≤ 8 → list_all (λ (p : ℕ). leb p 255) ps ≡ list_all (λ (p : ℕ). leb p 255) (drop i ps) → i < length ps → 255 < get_or ps i 0 → points_within ps ≡ Err (AboveRange 255)
-  bounded_fails few e h k = let z = e ∙ every_fails (λ (p : ℕ). leb p 255) ps i 0 h (lt-leb _ _ k) in rw (le-leb (length ps) 8 few, z)
-
-  pub bounded_holds : length ps ≤ 8 → list_all (λ (p : ℕ). leb p 255) ps ≡ list_all (λ (p : ℕ). leb p 255) (drop i ps) → length ps ≤ i → (qs : List ℕ) → qs ≡ take i ps → points_within ps ≡ Ok qs
-  bounded_holds few e h qs k = let z = e ∙ at_drop_all (list_all (λ (p : ℕ). leb p 255)) ps i h in rw (le-leb (length ps) 8 few, z) (ap Ok (sym (k ∙ take_all i ps h)))
 
 then_same : {A B E F : Type 0} (r : Result A E) (f : E → F) (s : Result B F) (k : B) → and_then (or_else r f) (λ _. s) ≡ Ok k → s ≡ Ok k
 then_same (Ok x) f s k h = h

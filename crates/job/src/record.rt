@@ -19,6 +19,7 @@ pub struct JobRecord {
     ghost once: { distinct (list_of points) ≡ true },
 }
 
+// By hand, since a struct with ghost fields derives no `Clone`.
 impl Clone for JobRecord {
     ghost is_clone = { λ job copy. copy ≡ job };
 

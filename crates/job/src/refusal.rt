@@ -31,11 +31,11 @@ impl fmt::Display for Refusal {
     ghost output = { λ r. Some (refusal_values r) };
 
     fn fmt<W: fmt::Write>(&self, f: &mut fmt::Formatter<W>) -> fmt::Result {
-        let number = self.number;
-        let line = self.line;
-        let field = self.field;
-        let reason = self.reason;
-        write!(f, "{number} {line} {field} {reason}")
+        write!(
+            f,
+            "{} {} {} {}",
+            self.number, self.line, self.field, self.reason
+        )
     }
 }
 
@@ -52,11 +52,11 @@ impl FieldFault {
     }
 }
 
-impl PreviewFault {
-    pub fn refusal(self) -> Refusal
-        ensures { result ≡ preview_refusal self }
-    {
-        match self {
+impl From<PreviewFault> for Refusal {
+    ghost from_gives = { λ fault r. r ≡ preview_refusal fault };
+
+    fn from(fault: PreviewFault) -> Refusal {
+        match fault {
             PreviewFault::WrongLength => Refusal::at_line(13, 0),
             PreviewFault::Candidate(JobFault::Field(fault)) => Refusal {
                 number: 4,

@@ -1,5 +1,11 @@
+ghost use Rattle.std.specs.Prelude.{List, map};
+ghost use Rattle.fixed.specs.Fixed.{list_of};
+ghost use Rattle.job.specs.Plain.{Job};
+ghost use Rattle.job.specs.Records.{job_of};
+
 use crate::record::JobRecord;
 use fixed::list::FixedList;
+use std::marker::Model;
 
 mod calls;
 
@@ -7,4 +13,11 @@ mod calls;
 #[derive(Drop)]
 pub struct JobTable {
     jobs: FixedList<JobRecord, 64>,
+}
+
+// Clauses see the plain jobs, in their order.
+impl Model for JobTable {
+    ghost Value = { List Job };
+
+    ghost view = { λ t. map job_of (list_of t.jobs) };
 }

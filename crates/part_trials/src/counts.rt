@@ -71,7 +71,7 @@ fn record(urgency: u32, points: &[u32], heap: Global) -> Result<JobRecord, Fail>
         urgency,
         points: points.to_vec(heap)?,
     };
-    Ok(JobRecord::from_draft(&draft)?)
+    Ok(JobRecord::try_from(&draft)?)
 }
 
 // The counts of numbered jobs under a precedence.

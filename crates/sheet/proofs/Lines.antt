@@ -1,5 +1,5 @@
 -- The lines of a sheet, one by one.
-use Rattle.std.proofs.Common.{◌≡◌, ℕ, ◌+◌, true, false, List, [], ◌∷◌, ◌++◌, length, Ok, Err, Result, sym, refl, ap, ◌∙◌, subst}
+use Rattle.std.proofs.Common.{◌≡◌, ℕ, ◌+◌, false, List, [], ◌∷◌, ◌++◌, length, Ok, Err, Result, sym, refl, ap, ◌∙◌}
 use Rattle.wiring.specs.declared.wire.Wire.{Wire}
 use Rattle.job.specs.Plain.{Job}
 use Rattle.spelling.specs.declared.fault.LineFault.{LineFault}
@@ -10,7 +10,7 @@ use Rattle.spelling.specs.Lines.{wire_line}
 use Rattle.spelling.specs.Sheet.{Tables, wire_names, wires_part, wires_from}
 use Rattle.spelling.specs.Texts.{Pieces, more, same}
 use Rattle.fields.specs.Reading.{placed}
-use Rattle.sheet.specs.Tables.{Adds, Takes, Leaves}
+use Rattle.sheet.specs.Tables.{Adds, Takes}
 
 -- what was added is what was read
 added : {T E : Type 0} (a : Result T E) (was is : List T) → Adds a was is → (x : T) × (a ≡ Ok x) × (is ≡ was ++ (x ∷ []))
@@ -20,10 +20,6 @@ added (Err e) was is h = absurd h
 taken : {T E : Type 0} (k : ℕ) (a : Result T E) (was is : List T) (r : Result (Unit {0}) E) → Ok (tt {0}) ≡ placed k r → Takes a was r is → (x : T) × (a ≡ Ok x) × (is ≡ was ++ (x ∷ []))
 taken k a was is (Ok u) h t = added a was is t
 taken k a was is (Err e) h t = absurd cc
-
--- what is left by one reading is left by another that reads the same
-pub leaves_same : (a b : Result Tables SheetFault) (r : Result (Unit {0}) SheetFault) (js : List Job) (ws : List Wire) → a ≡ b → Leaves a r js ws → Leaves b r js ws
-leaves_same a b r js ws e h = subst (λ (x : Result Tables SheetFault). Leaves x r js ws) e h
 
 -- ## Wires
 wire_read : (js : List Job) (ws : List Wire) (l : List ℕ) (q : Pieces) (w : Wire) → wire_line ws l ≡ Ok w → wires_from js ws (more l q) ≡ wires_from js (ws ++ (w ∷ [])) q
@@ -38,6 +34,3 @@ wires_step js ws ws' p q l k r whole c o t e =
 module _ (js : List Job) (p q : Pieces) (l : List ℕ) (line : p ≡ more l q) where
   pub part_wrong : (n : ℕ) → false ≡ same l wire_names → n ≡ length js → wires_part js p ≡ Err (AtLine (3 + n) WireNames)
   part_wrong n s e = rw (line, ← s, e)
-
-  pub part_right : (ws : List Wire) → true ≡ same l wire_names → ws ≡ [] → wires_from js ws q ≡ wires_part js p
-  part_right ws s e = rw (e, line, ← s)

@@ -1,6 +1,5 @@
 ghost use Rattle.std.specs.Prelude.{◌≡◌, length};
 ghost use Rattle.job.specs.Admitted.{no_record};
-ghost use Rattle.job.specs.Records.{jobs_of};
 ghost use Rattle.fixed.specs.Results.{Means};
 ghost use Rattle.spelling.specs.Lines.{fields, job_line};
 ghost use Rattle.spelling.specs.Texts.{all_of, cut};
@@ -35,7 +34,7 @@ pub(crate) fn take_job(
     line: &[u8],
     jobs: &mut JobTable,
 ) -> Result<(), LineFault>
-    ensures { Takes (job_line (columns_of order.now) (jobs_of jobs.old) line.now) (jobs_of jobs.old) result (jobs_of jobs.new) }
+    ensures { Takes (job_line (columns_of order.now) jobs.old line.now) jobs.old result jobs.new }
 {
     if jobs.is_full() {
         return Err(LineFault::TooManyJobs);

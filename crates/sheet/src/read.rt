@@ -2,7 +2,6 @@ ghost use Rattle.std.specs.Prelude.{◌≡◌, [], length, cond};
 ghost use Rattle.fixed.specs.Results.{given};
 ghost use Rattle.spelling.specs.declared.fault.LineFault.TheVariants.{Unended};
 ghost use Rattle.spelling.specs.declared.fault.SheetFault.TheVariants.{AtLine};
-ghost use Rattle.job.specs.Records.{jobs_of};
 ghost use Rattle.spelling.specs.Sheet.{read as read_of, jobs_from, wires_part, wires_from};
 ghost use Rattle.spelling.specs.Texts.{cut, empty};
 ghost use Rattle.fields.specs.Order.{columns_of};
@@ -41,7 +40,7 @@ fn wire_lines(
     jobs: &JobTable,
     wires: &mut WireTable,
 ) -> Result<(), SheetFault>
-    ensures { Leaves (wires_from (jobs_of jobs.now) wires.old (cut 10 (rest_of reader.old))) result (jobs_of jobs.now) wires.new }
+    ensures { Leaves (wires_from jobs.now wires.old (cut 10 (rest_of reader.old))) result jobs.now wires.new }
 {
     // above the wires stand the names, the jobs, an empty line and the wires' names; lines count from 1
     let above = 4 + jobs.len();
@@ -64,7 +63,7 @@ fn wire_part(
     wires: &mut WireTable,
 ) -> Result<(), SheetFault>
     requires { wires.old ≡ [] }
-    ensures { Leaves (wires_part (jobs_of jobs.now) (cut 10 (rest_of reader.old))) result (jobs_of jobs.now) wires.new }
+    ensures { Leaves (wires_part jobs.now (cut 10 (rest_of reader.old))) result jobs.now wires.new }
 {
     let Some(line) = reader.line() else {
         return Err(SheetFault::AtLine(3 + jobs.len(), LineFault::WireNames));
@@ -81,7 +80,7 @@ fn job_lines(
     order: &ColumnOrder,
     jobs: &mut JobTable,
 ) -> Result<bool, SheetFault>
-    ensures { Follows (jobs_from (columns_of order.now) (jobs_of jobs.old) (cut 10 (rest_of reader.old))) result (jobs_of jobs.new) (cut 10 (rest_of reader.new)) }
+    ensures { Follows (jobs_from (columns_of order.now) jobs.old (cut 10 (rest_of reader.old))) result jobs.new (cut 10 (rest_of reader.new)) }
 {
     while let Some(line) = reader.line() {
         if line.is_empty() {
@@ -100,7 +99,7 @@ fn job_lines(
 
 // The lines of a sheet, into the tables, whatever they held.
 fn read_lines(sheet: &[u8], jobs: &mut JobTable, wires: &mut WireTable) -> Result<(), SheetFault>
-    ensures { Leaves (read_of sheet.now) result (jobs_of jobs.new) wires.new }
+    ensures { Leaves (read_of sheet.now) result jobs.new wires.new }
 {
     jobs.clear();
     wires.clear();
@@ -121,8 +120,8 @@ fn read_lines(sheet: &[u8], jobs: &mut JobTable, wires: &mut WireTable) -> Resul
 // Reads a sheet into the tables, whatever they held. It is accepted exactly if it spells tables within the limits;
 // a refused one leaves both tables empty, and the answer is its first fault.
 pub fn read(sheet: &[u8], jobs: &mut JobTable, wires: &mut WireTable) -> Result<(), SheetFault>
-    ensures answer { Read sheet.now result (jobs_of jobs.new) wires.new }
-    ensures spelled { Spells sheet.now result (jobs_of jobs.new) wires.new }
+    ensures answer { Read sheet.now result jobs.new wires.new }
+    ensures spelled { Spells sheet.now result jobs.new wires.new }
     ensures first { Faults sheet.now result }
 {
     if let Err(fault) = read_lines(sheet, jobs, wires) {

@@ -10,7 +10,7 @@ use Rattle.std.specs.List.{AllByRecursion}
 use Rattle.std.specs.Str.{all_ascii_digits}
 use Rattle.std.specs.Int.{IsInRange}
 use Rattle.std.specs.Str.Parse.{digits_value}
-use Rattle.job.specs.declared.fault.FieldFault.TheVariants.{NoNumber, TooManyPoints}
+use Rattle.job.specs.declared.fault.FieldFault.TheVariants.{TooManyPoints}
 use Rattle.fixed.proofs.Pushing.{by_bool}
 use Rattle.spelling.specs.declared.column.Column.{Column}
 use Rattle.spelling.specs.declared.column.Column.TheVariants.{Proc, Arg, Urg, Points}

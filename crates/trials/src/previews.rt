@@ -3,6 +3,7 @@ use crate::support::held;
 use job::draft::JobDraft;
 use job::fault::{FieldFault, JobFault, PreviewFault};
 use job::preview::preview;
+use job::refusal::Refusal;
 use job::table::JobTable;
 use sheet::read::read;
 use std::alloc::{AllocError, Global};
@@ -89,7 +90,7 @@ fn answer_text(
         Ok(Some(number)) => format!(in heap; "{number}"),
         Ok(None) => String::from_str(heap, "-"),
         Err(fault) => {
-            let refusal = fault.refusal();
+            let refusal = Refusal::from(fault);
             format!(in heap; "{refusal}")
         }
     }

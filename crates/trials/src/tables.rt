@@ -1,5 +1,6 @@
 // Reading into tables that hold another sheet already.
 use crate::support::{JOBS, held, joined};
+use job::refusal::Refusal;
 use job::table::JobTable;
 use sheet::read::read;
 use std::alloc::Global;
@@ -55,7 +56,7 @@ fn read_over(
     match answer {
         Ok(()) => Ok(after),
         Err(fault) => {
-            let refusal = fault.refusal();
+            let refusal = Refusal::from(fault);
             Ok(format!(in heap; "{refusal}\n{after}")?)
         }
     }

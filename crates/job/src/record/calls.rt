@@ -1,8 +1,9 @@
-ghost use Rattle.std.specs.Prelude.{◌≡◌, ◌≤◌, length, IfOk, Ok};
+ghost use Rattle.std.specs.Prelude.{◌≡◌, ◌≤◌, length, IfOk, Ok, nat_le, true};
+ghost use Rattle.std.specs.List.{list_all};
 ghost use Rattle.fixed.specs.Fixed.{list_of};
 ghost use Rattle.job.specs.Records.{job_of, draft_of};
-ghost use Rattle.job.specs.Admitted.{letter_within, urgency_within, points_within, admitted, assembled, no_record};
-ghost use Rattle.fixed.specs.Results.{Means};
+ghost use Rattle.job.specs.Admitted.{letter_within, points_within, admitted, assembled, no_record};
+ghost use Rattle.fixed.specs.Results.{Means, given};
 
 use crate::draft::JobDraft;
 use crate::fault::{FieldFault, JobFault};
@@ -20,13 +21,14 @@ fn letter_within(letter: char) -> Result<char, FieldFault>
     }
 }
 
-fn urgency_within(urgency: u32) -> Result<u8, FieldFault>
-    ensures { result ≡ urgency_within urgency }
+// A number that is at most the top.
+fn at_most(number: u32, top: u8) -> Result<u8, FieldFault>
+    ensures { result ≡ given (nat_le number top) (FieldFault.AboveRange top) (Ok number) }
 {
-    if urgency > 9 {
-        return Err(FieldFault::AboveRange(9));
+    match u8::try_from(number) {
+        Ok(number) if number <= top => Ok(number),
+        _ => Err(FieldFault::AboveRange(u32::from(top))),
     }
-    Ok(urgency as u8)
 }
 
 // At most 8 points, each at most 255.
@@ -37,13 +39,32 @@ fn points_within(points: &[u32]) -> Result<FixedList<u8, 8>, FieldFault>
         return Err(FieldFault::TooManyPoints);
     }
     let mut list = FixedList::new(0);
-    for p in points {
-        if *p > 255 {
-            return Err(FieldFault::AboveRange(255));
-        }
-        let _ = list.push(*p as u8);
+    for point in points {
+        let _ = list.push(at_most(*point, u8::MAX)?);
     }
     Ok(list)
+}
+
+// Points as a draft has them.
+fn widened(points: &[u8], heap: Global) -> Result<Vec<u32>, AllocError>
+    ensures same { IfOk result (λ v. v.items ≡ points.now) }
+    ensures small { list_all (λ p. nat_le p 255) points.now ≡ true }
+{
+    points.iter().map(|point| u32::from(*point)).collect(heap)
+}
+
+// A draft as a record, refused by its first fault: letter, urgency, number of points, points from the left, a point twice.
+impl TryFrom<&JobDraft> for JobRecord {
+    type Error = JobFault;
+
+    ghost try_from_gives = { λ draft r. Means job_of (admitted (draft_of draft.now)) r };
+
+    fn try_from(draft: &JobDraft) -> Result<JobRecord, JobFault> {
+        let letter = letter_within(draft.letter)?;
+        let urgency = at_most(draft.urgency, 9)?;
+        let points = points_within(draft.points.as_slice())?;
+        JobRecord::new(letter, draft.argument, urgency, points)
+    }
 }
 
 impl JobRecord {
@@ -60,6 +81,7 @@ impl JobRecord {
     }
 
     // A record of these parts, if the letter, the urgency and the points are such as a record has.
+    #[tactic(auto, using(crate::proofs::Admitting::assembled_twice, crate::proofs::Admitting::assembled_whole))]
     pub fn new(
         letter: char,
         argument: u32,
@@ -69,7 +91,7 @@ impl JobRecord {
         ensures { Means job_of (assembled (record { letter = letter; argument = argument; urgency = urgency; points = list_of points })) result }
     {
         let letter = letter_within(letter)?;
-        let urgency = urgency_within(urgency as u32)?;
+        let urgency = at_most(u32::from(urgency), 9)?;
         if !all_different(points.as_slice()) {
             return Err(JobFault::PointTwice);
         }
@@ -79,16 +101,6 @@ impl JobRecord {
             urgency,
             points,
         })
-    }
-
-    // The record of a draft, refused by its first fault: letter, urgency, number of points, points from the left, a point twice.
-    pub fn from_draft(draft: &JobDraft) -> Result<JobRecord, JobFault>
-        ensures { Means job_of (admitted (draft_of draft.now)) result }
-    {
-        let letter = letter_within(draft.letter)?;
-        let urgency = urgency_within(draft.urgency)?;
-        let points = points_within(draft.points.as_slice())?;
-        JobRecord::new(letter, draft.argument, urgency, points)
     }
 
     pub fn letter(&self) -> char
@@ -121,15 +133,11 @@ impl JobRecord {
         ensures same { IfOk result (λ d. draft_of d ≡ job_of self.now) }
         ensures admitted { IfOk result (λ d. admitted (draft_of d) ≡ Ok (draft_of d)) }
     {
-        let mut points = Vec::new(heap);
-        for p in self.points.as_slice() {
-            points.push(u32::from(*p))?;
-        }
         Ok(JobDraft {
             letter: self.letter,
             argument: self.argument,
             urgency: u32::from(self.urgency),
-            points,
+            points: widened(self.points(), heap)?,
         })
     }
 }
