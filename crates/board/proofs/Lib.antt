@@ -1,3 +1,1 @@
-pub mod Window
-pub mod Steps
 pub mod Putting

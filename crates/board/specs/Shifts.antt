@@ -1,8 +1,7 @@
 -- Shifts: part of the words of a board, as a board.
 use Rattle.std.specs.Prelude.{◌≡◌, ℕ, ◌+◌, ◌<◌, ◌≤◌, List, length, take, drop, Result, MatchResult, slice_index, slice_set}
 use Rattle.board.specs.declared.fault.BoardFault.{BoardFault}
-use Rattle.board.specs.declared.fault.BoardFault.TheVariants.{NotOnBoard, InvalidShift}
-use Rattle.board.specs.declared.shift.Shift.{Shift}
+use Rattle.board.specs.declared.fault.BoardFault.TheVariants.{NotOnBoard}
 
 -- the words of a shift: n of them, from s on
 abbrev pub shifted : ℕ → ℕ → List ℕ → List ℕ
@@ -15,12 +14,6 @@ FitsBelow ws s n = (1 ≤ n) × (s + n ≤ length ws)
 -- there are n words, and the one at p is the one at s + p below
 abbrev pub Shows : List ℕ → ℕ → ℕ → List ℕ → Type 0
 Shows ws s n vs = (length vs ≡ n) × ((p : ℕ) → p < n → slice_index vs p ≡ slice_index ws (s + p))
-
--- a shift over the board below, or that board again, where none fits
-abbrev pub Shifted : {B : Type 0} → (B → List ℕ) → B → ℕ → ℕ → Result (Shift B) (B × BoardFault) → Type 0
-Shifted words below s n r =
-    MatchResult r (λ b. FitsBelow (words below) s n × (b.below ≡ below) × (b.start ≡ s) × (b.size ≡ n) × Shows (words below) s n (shifted b.start b.size (words b.below)))
-    (λ e. (FitsBelow (words below) s n → ⊥) × (e ≡ (below, InvalidShift)))
 
 -- the point below, of a point of the shift
 abbrev pub Reached : List ℕ → ℕ → ℕ → ℕ → Result ℕ BoardFault → Type 0

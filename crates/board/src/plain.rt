@@ -1,54 +1,10 @@
-ghost use Rattle.std.specs.Prelude.{◌≡◌};
-ghost use Rattle.board.specs.Plain.{Laid};
+ghost use Rattle.board.specs.Boards.{BoardSized};
 
-use crate::board::Board;
-use crate::fault::BoardFault;
+mod calls;
 
 // A board on lent words: the bottom of every pile.
 #[derive(Drop)]
 pub struct PlainBoard<'a> {
     cells: &'a mut [u32],
-}
-
-impl<'a> PlainBoard<'a> {
-    // A board on 1 to 256 words; a slice of another length is handed back as it was.
-    pub fn new(cells: &'a mut [u32]) -> Result<PlainBoard<'a>, (&'a mut [u32], BoardFault)>
-        ensures { Laid cells.entry result }
-    {
-        if cells.is_empty() || cells.len() > 256 {
-            return Err((cells, BoardFault::WrongLength));
-        }
-        Ok(PlainBoard { cells })
-    }
-
-    // The words themselves, where the board is no longer wanted.
-    pub fn into_cells(self) -> &'a mut [u32]
-        ensures { result.now ≡ self.entry.cells.now }
-    {
-        let PlainBoard { cells } = self;
-        cells
-    }
-}
-
-impl Board for PlainBoard<'_> {
-    ghost words = { λ b. b.cells.now };
-
-    fn size(&self) -> usize {
-        self.cells.len()
-    }
-
-    fn word(&self, point: usize) -> Result<u32, BoardFault> {
-        if point >= self.cells.len() {
-            return Err(BoardFault::NotOnBoard);
-        }
-        Ok(self.cells[point])
-    }
-
-    fn put(&mut self, point: usize, word: u32) -> Result<(), BoardFault> {
-        if point >= self.cells.len() {
-            return Err(BoardFault::NotOnBoard);
-        }
-        self.cells[point] = word;
-        Ok(())
-    }
+    ghost sized: { BoardSized cells.now },
 }

@@ -1,11 +1,9 @@
 -- The steps of the reader.
-use Rattle.std.proofs.Common.{◌≡◌, ℕ, ◌+◌, ◌<◌, ◌≤◌, Bool, false, cond, not, eqb, ltb, List, [], ◌∷◌, length, get_or, take, drop, count_by, sym, refl, ap, ◌∙◌, add-one, arith}
-use lib.Seq.{split_at}
+use Rattle.std.proofs.Common.{◌≡◌, ℕ, ◌+◌, Bool, false, not, eqb, ltb, List, [], ◌∷◌, length, take, drop, count_by, sym, refl, ap, ◌∙◌, arith}
 use Rattle.std.proofs.Math.Numerals.{one-add}
-use Rattle.std.proofs.ByRecursion.{All-more}
 use Rattle.std.proofs.lemmas.List.{take_all}
 use Rattle.std.proofs.lemmas.Bool.{ne_eqb, eqb-true, ltb-true, ltb-false}
-use Rattle.std.proofs.lemmas.List.Sums.{passes_at_first}
+use Rattle.std.proofs.lemmas.List.Sums.{passes_at_first, split_at_first}
 use Rattle.std.proofs.lemmas.List.Splits.{length-slice_split}
 use Rattle.std.proofs.lemmas.Iterator.{YieldsList}
 use Rattle.std.proofs.lemmas.Iterator.Splits.{YieldsList-from_slice_split}
@@ -23,15 +21,6 @@ use Rattle.fields.specs.declared.reader.Reader.{Reader}
 use Rattle.fields.specs.Reading.{Ends, rest_of, pieces_of}
 
 -- ## The first separator
-pub ends_here : (c : ℕ) (t : List ℕ) (i : ℕ) → i < length t → Free c (take i t) → get_or t i 0 ≡ c → cut c t ≡ more (take i t) (cut c (drop (i + 1) t))
-ends_here c t i h f e = ap (cut c) (split_at t i 0 h ∙ rw (e, add-one)) ∙ cut_more c (take i t) (drop (i + 1) t) f
-
-pub free_more : (c : ℕ) (t : List ℕ) (i : ℕ) → i < length t → Free c (take i t) → (get_or t i 0 ≡ c → ⊥) → Free c (take (i + 1) t)
-free_more c t i h f n = All-more (λ b. eqb b c ≡ false) t i 0 h f (ne_eqb (get_or t i 0) c n)
-
-pub ends_last : (c : ℕ) (t : List ℕ) (i : ℕ) → length t ≤ i → Free c (take i t) → cut c t ≡ last t
-ends_last c t i h f = cut_last c t (rw (take_all i t) at f)
-
 free_before : (c : ℕ) (t : List ℕ) → Free c (take (position_or_len (λ b. eqb b c) t) t)
 free_before c [] = tt
 free_before c (b ∷ t) = by_bool (eqb b c) (λ e. rw e tt) (λ e. rw (e, one-add) (e, free_before c t))
@@ -40,15 +29,11 @@ pub ends_first : (c : ℕ) (t : List ℕ) → Ends c t (position (λ b. eqb b c)
 ends_first c t =
     let n = position_or_len (λ b. eqb b c) t in
     by_bool (ltb n (length t))
-    (λ e. let l = ltb-true n (length t) e in rw e (l, ends_here c t n l (free_before c t) (eqb-true _ _ (passes_at_first (λ b. eqb b c) t 0 l))))
-    (λ e. rw e (ends_last c t n (ltb-false n (length t) e) (free_before c t)))
-
--- what is left of the pieces, when the first of them is ended and when it is the last
-pub next_more : {p q : Pieces} {l : List ℕ} (done : Bool) → done ≡ false → p ≡ more l q → cond done [] (all_of p) ≡ l ∷ cond done [] (all_of q)
-next_more done e h = rw (e, h)
-
-pub next_last : {p : Pieces} {l t : List ℕ} (done : Bool) → done ≡ false → l ≡ t → p ≡ last t → cond done [] (all_of p) ≡ l ∷ []
-next_last done e k h = rw (e, h, k)
+    (λ e.
+    let l = ltb-true n (length t) e in
+    let g = eqb-true _ _ (passes_at_first (λ b. eqb b c) t 0 l) in
+    rw e (l, ap (cut c) (split_at_first (λ b. eqb b c) t 0 l ∙ rw g) ∙ cut_more c (take n t) (drop (n + 1) t) (free_before c t)))
+    (λ e. rw e (cut_last c t (rw (take_all n t (ltb-false n (length t) e)) at (free_before c t))))
 
 -- ## Texts that are the same
 -- the library's test of two texts

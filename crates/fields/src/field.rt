@@ -21,8 +21,7 @@ fn known_letter(c: char) -> Result<char, FieldFault>
     ensures { result ≡ known c }
 {
     match c {
-        'T' => Ok('T'),
-        'S' => Ok('S'),
+        'T' | 'S' => Ok(c),
         _ => Err(FieldFault::UnknownLetter),
     }
 }

@@ -24,7 +24,7 @@ fn is_numeral(text: &[u8]) -> bool
     text.iter().all(u8::is_ascii_digit) && is_plain(text)
 }
 
-// What some digits write, at most the greatest number: so no text is too long.
+// What some digits write, or the greatest number where that is less: so no text is too long.
 fn value(digits: &[u8]) -> u64
     ensures { result ≡ fold read_on 0 digits.now }
 {

@@ -16,6 +16,7 @@ fn listed(text: &[u8]) -> Result<FixedList<u8, 8>, FieldFault>
 {
     let mut list = FixedList::new(0);
     for piece in text.split(|b| *b == b',') {
+        // there is room for each
         let _ = list.push(byte(piece)?);
     }
     Ok(list)

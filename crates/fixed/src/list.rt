@@ -5,6 +5,7 @@ use std::alloc::AllocError;
 mod calls;
 
 // A list that lies in place and holds at most N elements: the first `len` of its items.
+// Memory is fixed, so no `Vec`; and records hold such a list and are `Copy`, so no `ArrayVec`.
 pub struct FixedList<T: Copy, const N: usize> {
     items: [T; N],
     len: usize,

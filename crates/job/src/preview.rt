@@ -8,7 +8,7 @@ use crate::marks::MarkGuard;
 use crate::record::JobRecord;
 use crate::table::JobTable;
 
-// The same on marks of the right number.
+// The highest number of a job that clashes with the draft, found on 256 marks, which are blank afterwards.
 fn highest_clash(
     table: &JobTable,
     draft: &JobDraft,

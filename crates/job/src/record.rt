@@ -8,6 +8,7 @@ use std::alloc::AllocError;
 mod calls;
 
 // A job record: a letter A to Z, an argument, an urgency 0 to 9, and up to 8 points, all different, in the order given.
+// Facts as ghost fields: a model that shows the plain job would forget the unused places, and so not be `Copy`.
 pub struct JobRecord {
     letter: char,
     argument: u32,

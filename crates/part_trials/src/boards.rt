@@ -4,6 +4,7 @@ use board::fault::BoardFault;
 use board::plain::PlainBoard;
 use board::points::{put_words, read_words};
 use board::shift::Shift;
+use job::refusal::Refusal;
 use std::alloc::Global;
 use std::process::Abort;
 use std::test::Fail;
@@ -13,6 +14,7 @@ const TENS: [u32; 8] = [10, 11, 12, 13, 14, 15, 16, 17];
 fn laid(cells: &mut [u32]) -> Result<PlainBoard<'_>, BoardFault> {
     match PlainBoard::new(cells) {
         Ok(board) => Ok(board),
+        // No `map_err`: a closure that takes a lent slice by value gets no proof.
         Err((_, fault)) => Err(fault),
     }
 }
@@ -48,14 +50,12 @@ fn ends_at_its_size(rt: &impl Abort, cells: &mut [u32]) -> Result<(), Fail> {
 
 fn is_no_board(rt: &impl Abort, cells: &mut [u32]) -> Result<(), Fail> {
     let size = cells.len();
-    match PlainBoard::new(cells) {
-        Ok(_) => Err(Fail::new("a board of another length")),
-        Err((back, fault)) => {
-            assert_eq!(rt; back.len(), size);
-            assert_eq!(rt; fault, BoardFault::WrongLength);
-            Ok(())
-        }
-    }
+    let Err((back, fault)) = PlainBoard::new(cells) else {
+        return Err(Fail::new("a board of another length"));
+    };
+    assert_eq!(rt; back.len(), size);
+    assert_eq!(rt; fault, BoardFault::WrongLength);
+    Ok(())
 }
 
 #[test]
@@ -84,10 +84,9 @@ fn piles(rt: HostRuntime) -> Result<(), Fail> {
     let Ok(middle) = Shift::new(bottom, 2, 5) else {
         return Err(Fail::new("no shift"));
     };
-    let Ok(top) = Shift::new(middle, 1, 3) else {
+    let Ok(mut top) = Shift::new(middle, 1, 3) else {
         return Err(Fail::new("no shift over a shift"));
     };
-    let mut top = top;
     holds(&rt, &top, &[13, 14, 15], heap)?;
     top.put(0, 99)?;
     assert_eq!(rt; top.word(3), Err(BoardFault::NotOnBoard));
@@ -96,8 +95,7 @@ fn piles(rt: HostRuntime) -> Result<(), Fail> {
     let middle = top.into_below();
     holds(&rt, &middle, &[12, 99, 14, 15, 16], heap)?;
     let mut bottom = middle.into_below();
-    if let Ok(lent) = Shift::new(&mut bottom, 7, 1) {
-        let mut lent = lent;
+    if let Ok(mut lent) = Shift::new(&mut bottom, 7, 1) {
         lent.put(0, 98)?;
         holds(&rt, &lent, &[98], heap)?;
     }
@@ -224,7 +222,7 @@ static FAULTS: [(BoardFault, &str); 3] = [
 #[test]
 fn refusals(rt: HostRuntime) -> Result<(), Fail> {
     for (fault, wanted) in &FAULTS {
-        let refusal = fault.refusal();
+        let refusal = Refusal::from(*fault);
         let told = format!(in rt.alloc(); "{refusal} {fault}")?;
         assert_eq!(rt; told.as_str(), *wanted);
     }

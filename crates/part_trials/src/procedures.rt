@@ -1,4 +1,5 @@
 // What procedures propose, and which proposals are spoilt.
+use fixed::list::FixedList;
 use job::draft::JobDraft;
 use job::record::JobRecord;
 use procedure::paired::Paired;
@@ -6,7 +7,6 @@ use procedure::procedure::Procedure;
 use procedure::proposal::Proposal;
 use procedure::spread::Spread;
 use procedure::tally::Tally;
-use procedure::verdict::Verdict;
 use std::alloc::{AllocError, Global};
 use std::process::Abort;
 use std::test::Fail;
@@ -65,33 +65,11 @@ static WIRES: [Wire; 6] = [
 ];
 
 // Five wires from point 8.
-static FIVE: [Wire; 5] = [
-    Wire {
-        from: 8,
-        to: 9,
-        delay: 1,
-    },
-    Wire {
-        from: 8,
-        to: 9,
-        delay: 1,
-    },
-    Wire {
-        from: 8,
-        to: 9,
-        delay: 1,
-    },
-    Wire {
-        from: 8,
-        to: 9,
-        delay: 1,
-    },
-    Wire {
-        from: 8,
-        to: 9,
-        delay: 1,
-    },
-];
+static FIVE: [Wire; 5] = [Wire {
+    from: 8,
+    to: 9,
+    delay: 1,
+}; 5];
 
 // What a spread from point 8 along these wires hands in.
 const SENT: &str = ", S 3 6 [8, 9], S 0 6 [8, 1], S 3 6 [8, 9], S 4294967295 6 [8, 2]";
@@ -190,7 +168,7 @@ fn asked<P: Procedure>(
     words: &[u32],
     heap: Global,
 ) -> Result<Proposal, Fail> {
-    let job = JobRecord::from_draft(&drafted(letter, argument, 6, points, heap)?)?;
+    let job = JobRecord::try_from(&drafted(letter, argument, 6, points, heap)?)?;
     Ok(procedure.ask(&job, words, heap)?)
 }
 
@@ -214,8 +192,11 @@ fn draft_text(draft: &JobDraft, heap: Global) -> Result<String, AllocError> {
 }
 
 // The follow-ups of a good proposal, or that it is spoilt.
-fn verdict_text(verdict: &Verdict, heap: Global) -> Result<String, AllocError> {
-    let Verdict::Good(jobs) = verdict else {
+fn verdict_text(
+    verdict: Option<FixedList<JobRecord, 4>>,
+    heap: Global,
+) -> Result<String, AllocError> {
+    let Some(jobs) = verdict else {
         return String::from_str(heap, "spoilt");
     };
     let mut text = String::from_str(heap, "good")?;
@@ -251,7 +232,7 @@ fn judges(
     heap: Global,
 ) -> Result<(), Fail> {
     let proposal = asked(&spread, ('S', 5, &[7, 8]), words, heap)?;
-    let told = verdict_text(&proposal.judged(size), heap)?;
+    let told = verdict_text(proposal.judged(size), heap)?;
     assert_eq!(rt; told.as_str(), wanted, "{words:?} {size}");
     Ok(())
 }
@@ -262,7 +243,7 @@ fn judged(draft: JobDraft, size: usize, heap: Global) -> Result<String, Fail> {
         words: Vec::new(heap),
         follow_ups: vec![in heap; draft]?,
     };
-    Ok(verdict_text(&proposal.judged(size), heap)?)
+    Ok(verdict_text(proposal.judged(size), heap)?)
 }
 
 #[test]

@@ -1,5 +1,4 @@
 pub mod Spoiling
-pub mod Judging
-pub mod Sending
+pub mod Trying
 pub mod Good
 pub mod Rules

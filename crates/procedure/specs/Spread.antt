@@ -20,9 +20,16 @@ sent_on b urgency wires = map (along b urgency) (filter (λ w. nat_eq w.from b) 
 abbrev pub for_two : Job → List ℕ → Bool
 for_two j ws = j.letter == 83 && (length j.points == 2 && length ws == 2)
 
+-- the word that is carried to the second point
+abbrev pub carried : Job → List ℕ → ℕ
+carried j ws = slice_index ws 0 + j.argument
+
+-- whether it is written there
+abbrev pub writes : Job → List ℕ → Bool
+writes j ws = for_two j ws && reaches (slice_index ws 0) (slice_index ws 1) (carried j ws)
+
 abbrev pub spread_rule : List Wire → Rule
 spread_rule wires j ws =
-    let v = slice_index ws 0 + j.argument in
-    cond (for_two j ws && reaches (slice_index ws 0) (slice_index ws 1) v)
-    (record { words = slice_set ws 1 v; followups = sent_on (slice_index j.points 1) j.urgency wires })
+    cond (writes j ws)
+    (record { words = slice_set ws 1 (carried j ws); followups = sent_on (slice_index j.points 1) j.urgency wires })
     (unchanged ws)

@@ -15,11 +15,10 @@ pub struct Tally;
 fn tallied(words: &[u32], argument: u32, heap: Global) -> Result<Vec<u32>, AllocError>
     ensures { IfOk result (λ v. v.items ≡ tallied argument words.now) }
 {
-    let mut sums = Vec::new(heap);
-    for word in words {
-        sums.push(word.saturating_add(argument))?;
-    }
-    Ok(sums)
+    words
+        .iter()
+        .map(|word| word.saturating_add(argument))
+        .collect(heap)
 }
 
 impl Procedure for Tally {

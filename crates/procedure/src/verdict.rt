@@ -9,42 +9,26 @@ use fixed::list::FixedList;
 use job::draft::JobDraft;
 use job::record::JobRecord;
 
-// What becomes of a proposal: its follow-ups as job records in their order, or nothing.
-#[derive(Clone, Copy)]
-pub enum Verdict {
-    Good(FixedList<JobRecord, 4>),
-    Spoilt,
-}
-
 // A follow-up as a job record on a board of that size, unless it spoils its proposal.
 fn follow_up(draft: &JobDraft, size: usize) -> Option<JobRecord>
     ensures { MatchOption result (spoils size (draft_of draft.now) ≡ true) (λ j. (spoils size (draft_of draft.now) ≡ false) × (job_of j ≡ draft_of draft.now)) }
 {
-    let Ok(job) = JobRecord::from_draft(draft) else {
-        return None;
-    };
-    if all_on_board(job.points(), size) {
-        Some(job)
-    } else {
-        None
-    }
+    JobRecord::try_from(draft)
+        .ok()
+        .filter(|job| all_on_board(job.points(), size))
 }
 
 impl Proposal {
-    // Whether the proposal is good on a board of that size, and then its follow-ups as job records.
-    pub fn judged(&self, size: usize) -> Verdict
+    // The follow-ups as job records in their order, if the proposal is good on a board of that size, and nothing if it is spoilt.
+    pub fn judged(&self, size: usize) -> Option<FixedList<JobRecord, 4>>
         ensures { Judged size (proposal_of self.now) result }
     {
-        if self.follow_ups.len() > 4 {
-            return Verdict::Spoilt;
-        }
         let mut jobs = FixedList::new(JobRecord::blank());
-        for draft in self.follow_ups.as_slice() {
-            let Some(job) = follow_up(draft, size) else {
-                return Verdict::Spoilt;
-            };
-            let _ = jobs.push(job);
+        for draft in &self.follow_ups {
+            let job = follow_up(draft, size)?;
+            // A fifth finds no room, and spoils the proposal.
+            jobs.push(job).ok()?;
         }
-        Verdict::Good(jobs)
+        Some(jobs)
     }
 }

@@ -8,6 +8,7 @@ use spelling::column::Column;
 
 impl ColumnOrder {
     // These columns as an order, unless one stands twice.
+    #[tactic(auto, using(crate::proofs::Gathered::order_differs))]
     pub fn new(columns: [Column; 4]) -> Option<ColumnOrder>
         ensures { MatchOption result (order_of_four columns ≡ false) (λ order. columns_of order ≡ columns) }
     {

@@ -34,8 +34,7 @@ impl<'a> Reader<'a> {
     pub fn rest(&self) -> &'a [u8]
         ensures { result.now ≡ rest_of self.now }
     {
-        let bytes = self.bytes;
-        &bytes[self.place..]
+        &self.bytes[self.place..]
     }
 
     // The next line that has its end.

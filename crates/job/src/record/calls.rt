@@ -45,7 +45,7 @@ fn points_within(points: &[u32]) -> Result<FixedList<u8, 8>, FieldFault>
     Ok(list)
 }
 
-// Points as a draft has them.
+// Points as a draft has them; each is at most 255.
 fn widened(points: &[u8], heap: Global) -> Result<Vec<u32>, AllocError>
     ensures same { IfOk result (λ v. v.items ≡ points.now) }
     ensures small { list_all (λ p. nat_le p 255) points.now ≡ true }
@@ -81,7 +81,7 @@ impl JobRecord {
     }
 
     // A record of these parts, if the letter, the urgency and the points are such as a record has.
-    #[tactic(auto, using(crate::proofs::Admitting::assembled_twice, crate::proofs::Admitting::assembled_whole))]
+    #[tactic(auto, using(crate::proofs::Admitting::passes_same))]
     pub fn new(
         letter: char,
         argument: u32,

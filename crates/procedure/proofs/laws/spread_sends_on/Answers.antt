@@ -1,5 +1,5 @@
-use Rattle.procedure.proofs.Rules.{spread_sends_on, spread_is_silent}
+use Rattle.procedure.proofs.Rules.{spread_sends_on}
 use Rattle.procedure.proofs.laws.spread_sends_on.Goals as goal
 
-pub returns : goal.returns
-returns c = record { sends = spread_sends_on; silent = spread_is_silent }
+pub returns-clause-sends : goal.returns-clause-sends
+returns-clause-sends c = spread_sends_on

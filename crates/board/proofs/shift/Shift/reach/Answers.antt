@@ -1,6 +1,0 @@
-use Rattle.std.proofs.Common.{rules}
-use Rattle.board.proofs.Window.{length_shifted}
-use Rattle.board.proofs.shift.Shift.reach.Goals as goal
-
-pub returns : goal.returns
-returns g c = simp length_shifted (search rules)
