@@ -36,6 +36,7 @@ fn letter(text: &[u8]) -> Result<char, FieldFault>
     }
 }
 
+// Each of these says in `past` how it leaves the reader: a step is no fact on one reader, so no type can keep it.
 impl<'a> Reader<'a> {
     // The next field between spaces; where none is left, an empty one.
     fn field_text(&mut self) -> &'a [u8]

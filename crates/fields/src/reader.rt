@@ -8,7 +8,7 @@ pub struct Reader<'a> {
     bytes: &'a [u8],
     // where the next piece begins
     place: usize,
-    // whether the last piece, which no separator ends, was handed on
+    // whether the last piece, which no separator ends, was handed on; the place stays known, so it is no Option
     done: bool,
     ghost within: { place ≤ length bytes.now },
 }

@@ -40,6 +40,7 @@ impl fmt::Display for Refusal {
 }
 
 impl FieldFault {
+    // The reason by its number, as a listing prints it: a rule of the format, given here alone.
     pub fn reason(self) -> u8
         ensures { result ≡ reason_of self }
     {

@@ -1,4 +1,5 @@
-ghost use Rattle.std.specs.Prelude.{◌≡◌, [], length, cond};
+ghost use Rattle.std.specs.Prelude.{◌≡◌, []};
+ghost use Rattle.std.specs.Option.{unwrap_or};
 ghost use Rattle.fixed.specs.Results.{given};
 ghost use Rattle.spelling.specs.declared.fault.LineFault.TheVariants.{Unended};
 ghost use Rattle.spelling.specs.declared.fault.SheetFault.TheVariants.{AtLine};
@@ -18,19 +19,14 @@ use job::table::JobTable;
 use spelling::fault::{LineFault, SheetFault};
 use wiring::table::WireTable;
 
-// That nothing is left behind the last line that has its end. What is left is a line too many where the table is full.
-fn at_end(
-    reader: &Reader<'_>,
-    line: usize,
-    full: bool,
-    too_many: LineFault,
-) -> Result<(), SheetFault>
-    ensures { result ≡ given (empty (rest_of reader.now)) (AtLine line (cond full too_many Unended)) (Ok tt) }
+// That nothing is left behind the last line that has its end. What is left has none, or is a line too many.
+fn at_end(reader: &Reader<'_>, line: usize, too_many: Option<LineFault>) -> Result<(), SheetFault>
+    ensures { result ≡ given (empty (rest_of reader.now)) (AtLine line (unwrap_or too_many Unended)) (Ok tt) }
 {
     if reader.rest().is_empty() {
         return Ok(());
     }
-    let fault = if full { too_many } else { LineFault::Unended };
+    let fault = too_many.unwrap_or(LineFault::Unended);
     Err(SheetFault::AtLine(line, fault))
 }
 
@@ -47,12 +43,8 @@ fn wire_lines(
     while let Some(line) = reader.line() {
         at(above + wires.len(), take_wire(line, wires))?;
     }
-    at_end(
-        reader,
-        above + wires.len(),
-        wires.is_full(),
-        LineFault::TooManyWires,
-    )
+    let too_many = wires.is_full().then_some(LineFault::TooManyWires);
+    at_end(reader, above + wires.len(), too_many)
 }
 
 // The wires' part, behind the empty line: its names, and then the wires.
@@ -88,12 +80,8 @@ fn job_lines(
         }
         at(2 + jobs.len(), take_job(order, line, jobs))?;
     }
-    at_end(
-        reader,
-        2 + jobs.len(),
-        jobs.is_full(),
-        LineFault::TooManyJobs,
-    )?;
+    let too_many = jobs.is_full().then_some(LineFault::TooManyJobs);
+    at_end(reader, 2 + jobs.len(), too_many)?;
     Ok(false)
 }
 

@@ -3,7 +3,7 @@ use Rattle.std.proofs.Common.{◌≡◌, ℕ, suc, ◌+◌, Bool, true, cond, �
 use Rattle.std.proofs.lemmas.Bool.Decides.{nat_tests}
 use Rattle.spelling.specs.declared.column.Column.TheVariants.{Proc, Arg, Urg, Points}
 use Rattle.spelling.specs.declared.fault.LineFault.TheVariants.{JobNames}
-use Rattle.spelling.specs.Lines.{column}
+use Rattle.spelling.specs.Lines.{name, column}
 use Rattle.spelling.specs.Texts.{same}
 
 -- whether the bytes of a text stand in another from a place on
@@ -27,8 +27,8 @@ same_stands (x ∷ t) (y ∷ u) =
     rw (same_stands t u, e) (heads (length t) (length u) x y (stands t 0 u))
 
 pub column_stands : (t : List ℕ) → column t ≡
-    cond (eqb (length t) 4 && stands t 0 (112 ∷ (114 ∷ (111 ∷ (99 ∷ []))))) (Ok Proc)
-    (cond (eqb (length t) 3 && stands t 0 (97 ∷ (114 ∷ (103 ∷ [])))) (Ok Arg)
-    (cond (eqb (length t) 3 && stands t 0 (117 ∷ (114 ∷ (103 ∷ [])))) (Ok Urg)
-    (cond (eqb (length t) 6 && stands t 0 (112 ∷ (111 ∷ (105 ∷ (110 ∷ (116 ∷ (115 ∷ []))))))) (Ok Points) (Err JobNames))))
+    cond (eqb (length t) 4 && stands t 0 (name Proc)) (Ok Proc)
+    (cond (eqb (length t) 3 && stands t 0 (name Arg)) (Ok Arg)
+    (cond (eqb (length t) 3 && stands t 0 (name Urg)) (Ok Urg)
+    (cond (eqb (length t) 6 && stands t 0 (name Points)) (Ok Points) (Err JobNames))))
 column_stands t = simp same_stands

@@ -1,6 +1,7 @@
 // The limits of a sheet: jobs, wires and bytes.
 use crate::support::{JOBS, WIRES, accepts, joined, refuses, repeated};
 use std::alloc::{AllocError, Global};
+use std::fmt::Write;
 use std::test::Fail;
 
 // Behind 64 jobs, which are the lines 2 to 65.
@@ -45,9 +46,7 @@ fn job_sheet(count: usize, heap: Global) -> Result<String, AllocError> {
 fn chained_rows(heap: Global) -> Result<String, AllocError> {
     let mut rows = String::from_str(heap, "1 -\n")?;
     for before in 1..64u32 {
-        let number = before + 1;
-        let row = format!(in heap; "{number} {before}\n")?;
-        rows.push_str(row.as_str())?;
+        writeln!(rows, "{} {before}", before + 1)?;
     }
     Ok(rows)
 }

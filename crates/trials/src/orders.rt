@@ -25,7 +25,7 @@ fn line(fields: &[&str; 4], order: &[u8], heap: Global) -> Result<String, AllocE
         if !text.is_empty() {
             text.push_str(" ")?;
         }
-        if let Some(field) = fields.get(*place as usize) {
+        if let Some(field) = fields.get(usize::from(*place)) {
             text.push_str(field)?;
         }
     }

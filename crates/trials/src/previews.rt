@@ -74,12 +74,7 @@ fn table() -> Result<JobTable, Fail> {
 }
 
 fn all_are(marks: &[u8], value: u8) -> bool {
-    for m in marks {
-        if *m != value {
-            return false;
-        }
-    }
-    true
+    marks.iter().all(|mark| *mark == value)
 }
 
 fn answer_text(

@@ -4,6 +4,7 @@ use listing::check::check;
 use listing::fault::CheckFault;
 use listing::text::{refusal_text, report_text};
 use std::alloc::{AllocError, Global};
+use std::fmt::Write;
 use std::process::Abort;
 use std::test::Fail;
 use wiring::table::WireTable;
@@ -86,15 +87,10 @@ pub(crate) fn held(jobs: &JobTable, wires: &WireTable, heap: Global) -> Result<S
         let argument = job.argument();
         let urgency = job.urgency();
         let points = job.points();
-        let line = format!(in heap; "{letter} {argument} {urgency} {points:?}\n")?;
-        text.push_str(line.as_str())?;
+        writeln!(text, "{letter} {argument} {urgency} {points:?}")?;
     }
     for wire in wires.wires() {
-        let from = wire.from;
-        let to = wire.to;
-        let delay = wire.delay;
-        let line = format!(in heap; "{from} {to} {delay}\n")?;
-        text.push_str(line.as_str())?;
+        writeln!(text, "{} {} {}", wire.from, wire.to, wire.delay)?;
     }
     Ok(text)
 }
