@@ -21,6 +21,7 @@ pub fn read_words<B: Board>(board: &B, points: &[u8]) -> Result<FixedList<u32, 8
     if points.len() > 8 {
         return Err(BoardFault::WrongLength);
     }
+    // No memory may be wanted here, so a list that lies in place is filled, and none is collected.
     let mut words = FixedList::new(0);
     for point in points {
         let word = board.word(usize::from(*point))?;

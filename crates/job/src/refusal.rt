@@ -27,6 +27,7 @@ impl Refusal {
     }
 }
 
+// Written out, since its text is the format of a listing, and a derived one would not be pinned.
 impl fmt::Display for Refusal {
     ghost output = { λ r. Some (refusal_values r) };
 

@@ -31,6 +31,7 @@ impl fmt::Display for Report {
 
     fn fmt<W: fmt::Write>(&self, f: &mut fmt::Formatter<W>) -> fmt::Result {
         f.write_str("job clash\n")?;
+        // the place is wanted: it gives the job's number
         for (i, clash) in self.clashes.as_slice().iter().enumerate() {
             let row = Row {
                 number: i + 1,

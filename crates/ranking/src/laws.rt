@@ -72,6 +72,8 @@ pub fn standing_same<K: Ord>(s: &Standing<K>, t: &Standing<K>) -> bool
     s == t
 }
 
+// Sheet order and urgency order each have a function, since what they promise differs.
+
 // Whether one job is below another under sheet order: exactly if its number is smaller.
 pub fn sheet_below(job: &JobRecord, m: u8, other: &JobRecord, n: u8) -> bool
     ensures value { (result ≡ true) ↔ (m < n) }

@@ -22,6 +22,7 @@ fn job_fields(order: &ColumnOrder, line: &[u8]) -> Result<Values, LineFault>
 {
     let mut reader = Reader::new(line);
     let mut values = Values::none();
+    // the place is wanted: a fault names its field
     for (i, column) in order.columns().iter().enumerate() {
         at(i + 1, values.put(*column, &mut reader))?;
     }

@@ -1,8 +1,8 @@
 -- Behind the lines of sound tables, reading goes on as if these tables had just been read.
-use Rattle.std.proofs.Common.{◌≡◌, ℕ, ◌<◌, Bool, true, false, cond, eqb, List, [], ◌∷◌, ◌++◌, map, Ok, refl, ap, ◌∙◌, append_assoc, append-nil, arith, length-append}
+use Rattle.std.proofs.Common.{◌≡◌, ℕ, ◌<◌, Bool, true, false, List, [], ◌∷◌, ◌++◌, map, Ok, refl, ap, ◌∙◌, append_assoc, append-nil, arith, length-append}
 use Rattle.std.proofs.ByRecursion.{All-weaker, All-map, All-append}
 use Rattle.std.proofs.lemmas.List.Sums.{sum_by-append, sum_by-cons}
-use Rattle.std.proofs.lemmas.Bool.{eq-eqb}
+use Rattle.std.proofs.lemmas.Bool.Decides.{nat_tests}
 use Rattle.std.specs.List.{AllByRecursion}
 use Rattle.wiring.specs.declared.wire.Wire.{Wire}
 use Rattle.job.specs.Plain.{Job}
@@ -13,7 +13,7 @@ use Rattle.spelling.specs.Lines.{order_of_four}
 use Rattle.spelling.specs.Sheet.{Tables, wire_names, wires_from, wires_part, jobs_from, read_lines, read}
 use Rattle.spelling.specs.Spelling.{with_ends, job_text, wire_text, job_lines, wire_lines, part, spell, WithinJob, WithinJobs, WithinWire, WithinWires, Within}
 use Rattle.spelling.specs.Texts.{Pieces, last, more, empty}
-use Rattle.spelling.proofs.Basics.{all_middle, Free, free_lacks, cut_ended, lines_append}
+use Rattle.spelling.proofs.Basics.{all_middle, Free, cut_ended, lines_append}
 use Rattle.spelling.proofs.Lines.{names_read, free_names, job_line_reads, job_some, free_job, wire_line_reads, free_wire}
 
 -- ## Jobs and wires behind others
@@ -26,7 +26,7 @@ jobs_on cs o is (j ∷ js) Js q =
     rw (job_some cs is (job_text cs j) j r, r, ← e) (jobs_on cs o (is ++ (j ∷ [])) js (rw (← e) at Js) q)
 
 leaving_middle : (vs : List Wire) (w : Wire) (ws : List Wire) → leaving w.from vs < leaving w.from (vs ++ (w ∷ ws))
-leaving_middle vs w ws = rw (sum_by-append (λ (v : Wire). cond (eqb v.from w.from) 1 0) vs (w ∷ ws), sum_by-cons (λ (v : Wire). cond (eqb v.from w.from) 1 0) w ws, eq-eqb w.from w.from refl) (omega arith)
+leaving_middle vs w ws = simp (sum_by-append, sum_by-cons) (grind (arith, nat_tests))
 
 wires_on : (js : List Job) (vs ws : List Wire) → WithinWires (vs ++ ws) → (q : Pieces) → wires_from js vs (lines_then (map wire_text ws) q) ≡ wires_from js (vs ++ ws) q
 wires_on js vs [] Ws q = rw (append-nil vs)
@@ -58,8 +58,11 @@ pub lines_read : (cs : List Column) (b : Bool) (t : Tables) → order_of_four cs
 lines_read cs b t o W = spelled_lines cs o t.jobs W.jobs b t.wires W.wires
 
 -- no line holds the byte that ends lines
+free_wire_names : Free 10 wire_names
+free_wire_names = grind (arith, nat_tests)
+
 free_wires : (ws : List Wire) → AllByRecursion WithinWire ws → AllByRecursion (Free 10) (wire_lines ws)
-free_wires ws a = (tt, (free_lacks 10 wire_names refl, All-map (Free 10) wire_text ws (All-weaker WithinWire _ free_wire ws a)))
+free_wires ws a = (tt, (free_wire_names, All-map (Free 10) wire_text ws (All-weaker WithinWire _ free_wire ws a)))
 
 free_part : (b : Bool) (ws : List Wire) → AllByRecursion WithinWire ws → AllByRecursion (Free 10) (part b ws)
 free_part true ws a = free_wires ws a

@@ -48,6 +48,7 @@ pub enum SheetFault {
     AtLine(usize, LineFault),
 }
 
+// These are written out, since a derived `From` does not say which fault it gives, and since a place comes with the fault.
 impl From<(usize, FieldFault)> for LineFault {
     ghost from_gives = { λ e r. r ≡ AtField e.0 e.1 };
 

@@ -128,7 +128,7 @@ impl JobRecord {
         self.points.as_slice()
     }
 
-    // The record as a draft that says the same, and that is admitted as every record is.
+    // The record as a draft that says the same, and that is admitted as every record is. It wants memory, so it is no `From`.
     pub fn draft(&self, heap: Global) -> Result<JobDraft, AllocError>
         ensures same { IfOk result (λ d. draft_of d ≡ job_of self.now) }
         ensures admitted { IfOk result (λ d. admitted (draft_of d) ≡ Ok (draft_of d)) }
