@@ -25,6 +25,7 @@ pub fn read_words<B: Board>(board: &B, points: &[u8]) -> Result<FixedList<u32, 8
     let mut words = FixedList::new(0);
     for point in points {
         let word = board.word(usize::from(*point))?;
+        // there is room for 8
         let _ = words.push(word);
     }
     Ok(words)

@@ -19,7 +19,7 @@ enum Failure {
     File(String, io::Error),
     #[error("more than one argument: name one file, or none for standard input")]
     TooManyArguments,
-    #[error("{0}")]
+    #[error(transparent)]
     Stream(#[from] io::Error),
 }
 
@@ -33,7 +33,7 @@ impl From<AllocError> for Failure {
 // Up to one byte more than a sheet may have, so that a longer one is seen.
 fn bounded(input: impl Read + Drop, rt: &HostRuntime) -> io::Result<Vec<u8>> {
     let mut bytes = Vec::new(rt.alloc());
-    // `as`, since there is no `From` between these widths
+    // `as`, since between these widths there is only a `TryFrom`, and its error cannot come
     let mut limited = input.take(MOST_BYTES as u64 + 1);
     limited.read_to_end(&mut bytes)?;
     Ok(bytes)

@@ -53,5 +53,5 @@ pub fn byte(text: &[u8]) -> Result<u8, FieldFault>
     ensures { result ≡ number_of 255 text.now }
 {
     let n = number(text, 255)?;
-    u8::try_from(n).map_err(|_| FieldFault::AboveRange(255))
+    Ok(u8::try_from(n).unwrap())
 }

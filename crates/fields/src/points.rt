@@ -27,6 +27,7 @@ fn listed(text: &[u8]) -> Result<FixedList<u8, 8>, FieldFault>
 pub fn points(text: &[u8]) -> Result<FixedList<u8, 8>, FieldFault>
     ensures { Means list_of (points_of text.now) result }
 {
+    // `==`, since behind a pattern `[b'-']` the proof did not close
     if text == b"-".as_slice() {
         return Ok(FixedList::new(0));
     }

@@ -10,7 +10,7 @@ use std::marker::Model;
 mod calls;
 
 // A job table: at most 64 job records, numbered from 1 in their order.
-// A type of its own over the one list, and so is a wire table: what may be in them differs.
+// A type of its own over the one list, so that clauses see its plain jobs; a wire table ties its wires together besides.
 #[derive(Drop)]
 pub struct JobTable {
     jobs: FixedList<JobRecord, 64>,

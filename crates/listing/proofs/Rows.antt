@@ -4,7 +4,6 @@ use Rattle.std.proofs.lemmas.List.{get_or_append_left, get_or_push, length_push,
 use Rattle.job.specs.Admitted.{no_record}
 use Rattle.job.specs.Plain.{Job}
 use Rattle.job.specs.Preview.{job_at, HighestClash}
-use Rattle.listing.specs.Reports.{ClashRows}
 use Rattle.listing.specs.Texts.{row_text, rows_text}
 
 -- the rows of the first i jobs
@@ -18,9 +17,6 @@ rows_more js i rows rows' row (n, h) e r = (
       (λ k l. let z : k < length rows = omega arith in subst (λ (x : Option ℕ). HighestClash (take k js) (job_at js k) x) (sym (ap (λ (l : List (Option ℕ)). get_or l k None) e ∙ get_or_append_left rows (row ∷ []) None k z)) (h k l))
       (subst (λ (x : Option ℕ). HighestClash (take i js) (job_at js i) x) (sym (ap (λ (l : List (Option ℕ)). get_or l i None) e ∙ get_or_push rows row None i n)) r),
 )
-
-pub rows_all : (js : List Job) (i : ℕ) (rows : List (Option ℕ)) → i ≡ length js → RowsTo js i rows → ClashRows js rows
-rows_all js i rows e (n, h) = record { many = n ∙ e; each = λ k l. h k (rw e l) }
 
 -- ## Their text
 pub text_more : (rows : List (Option ℕ)) (i : ℕ) (was now line whole : List ℕ) → i < length rows → now ≡ was ++ line → line ≡ row_text (i + 1) (get_or rows i None) → was ++ rows_text (i + 1) (drop i rows) ≡ whole → now ++ rows_text (i + 1 + 1) (drop (i + 1) rows) ≡ whole

@@ -14,7 +14,7 @@ pub enum CheckFault {
     // more bytes than a sheet may have
     #[error("The sheet is too long: at most {most} bytes are allowed.", most = MOST_BYTES)]
     TooLong,
-    #[error("{0}")]
+    #[error(transparent)]
     Sheet(SheetFault),
     // no memory was left for the answer; this is no fault of the sheet
     #[error("No memory is left for the answer.")]

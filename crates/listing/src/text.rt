@@ -14,6 +14,7 @@ struct Row {
     clash: Option<usize>,
 }
 
+// Both written out, since their text is the format, and a derived one would not be pinned.
 impl fmt::Display for Row {
     ghost output = { λ r. Some (row_text r.number r.clash) };
 

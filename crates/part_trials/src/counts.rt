@@ -42,7 +42,7 @@ fn standings(rt: HostRuntime) -> Result<(), Fail> {
         held((2, 0), 4),
     ];
     assert_eq!(rt; counts(&by_two, heap)?.as_str(), "[2, 0, 3, 1]");
-    assert_eq!(rt; by_two[0] == by_two[2], false);
+    assert!(rt; by_two[0] != by_two[2]);
     Ok(())
 }
 
@@ -59,8 +59,8 @@ fn pedigrees(rt: HostRuntime) -> Result<(), Fail> {
         pedigree(1, 1),
     ];
     assert_eq!(rt; counts(&all, rt.alloc())?.as_str(), "[2, 1, 3, 0]");
-    assert_eq!(rt; all[0] == pedigree(2, 1), true);
-    assert_eq!(rt; all[0] == pedigree(1, 2), false);
+    assert_eq!(rt; all[0], pedigree(2, 1));
+    assert!(rt; all[0] != pedigree(1, 2));
     Ok(())
 }
 

@@ -37,8 +37,9 @@ pub fn standings_each_once<P: Precedence>(precedence: &P)
     ensures once { GenerationEachOnce (below_by P.Key.cmp) (eq_by_cmp P.Key.cmp) (P.keyed precedence.now) }
 {}
 
-// The functions from here on compare by the type's own comparison. Their clauses `order` and `equality` say that this
-// comparison, by which `count_below` counts too, answers as the subject's test does, whatever the values.
+// A derived comparison has no code that a contract could stand on. So each function from here on compares by the type's
+// own comparison, by which `count_below` counts too, and its clause `order` or `equality` says that this comparison
+// answers as the subject's test does, whatever the values.
 
 // Whether one pair is below another: by the first parts, then by the second.
 pub fn pair_below<A: Ord, B: Ord>(p: &(A, B), q: &(A, B)) -> bool

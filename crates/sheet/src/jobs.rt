@@ -15,7 +15,7 @@ use fields::shape::expect_fields;
 use job::table::JobTable;
 use spelling::fault::LineFault;
 
-// The four fields of a job line, which stand in the order of the columns.
+// The four fields of a job line, which stand in the order of the columns. The one caller has just counted them.
 fn job_fields(order: &ColumnOrder, line: &[u8]) -> Result<Values, LineFault>
     requires { length (all_of (cut 32 line.now)) ≡ 4 }
     ensures { Means values_of (fields (columns_of order.now) (all_of (cut 32 line.now)) 1 no_record) result }
@@ -43,6 +43,7 @@ pub(crate) fn take_job(
     expect_fields(line, 4)?;
     let values = job_fields(order, line)?;
     let record = values.record()?;
+    // the table was not full
     let _ = jobs.push(record);
     Ok(())
 }

@@ -57,10 +57,7 @@ fn wire_part(
     requires { wires.old ≡ [] }
     ensures { Leaves (wires_part jobs.now (cut 10 (rest_of reader.old))) result jobs.now wires.new }
 {
-    let Some(line) = reader.line() else {
-        return Err(SheetFault::AtLine(3 + jobs.len(), LineFault::WireNames));
-    };
-    if line != b"from to delay".as_slice() {
+    if reader.line() != Some(b"from to delay".as_slice()) {
         return Err(SheetFault::AtLine(3 + jobs.len(), LineFault::WireNames));
     }
     wire_lines(reader, jobs, wires)

@@ -4,7 +4,7 @@ use fixed::list::FixedList;
 
 mod calls;
 
-// What the fields of a job line said so far.
+// What the fields of a job line said so far. No record can hold it: a point may still stand twice.
 #[derive(Drop)]
 pub(crate) struct Values {
     letter: char,

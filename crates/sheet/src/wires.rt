@@ -10,7 +10,7 @@ use spelling::fault::LineFault;
 use wiring::table::WireTable;
 use wiring::wire::Wire;
 
-// The three fields of a wire line.
+// The three fields of a wire line. The one caller has just counted them.
 fn three_fields(line: &[u8]) -> Result<Wire, LineFault>
     requires { length (all_of (cut 32 line.now)) ≡ 3 }
     ensures { result ≡ wire_fields (all_of (cut 32 line.now)) }

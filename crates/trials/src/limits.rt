@@ -64,12 +64,8 @@ fn wire_sheet(points: u32, heap: Global) -> Result<String, AllocError> {
 
 // A sheet of so many bytes, all but 27 of them digits of an argument.
 fn long_sheet(bytes: usize, heap: Global) -> Result<String, AllocError> {
-    let mut text = joined(JOBS, "T ", heap)?;
-    for _ in 27..bytes {
-        text.push_str("1")?;
-    }
-    text.push_str(" 0 -\n")?;
-    Ok(text)
+    let digits = repeated("1", bytes.saturating_sub(27), heap)?;
+    format!(in heap; "{JOBS}T {} 0 -\n", digits.as_str())
 }
 
 #[test]

@@ -17,18 +17,12 @@ pub(crate) const WIRES: &str = "proc arg urg points\n\nfrom to delay\n";
 
 // One text behind another.
 pub(crate) fn joined(head: &str, tail: &str, heap: Global) -> Result<String, AllocError> {
-    let mut text = String::from_str(heap, head)?;
-    text.push_str(tail)?;
-    Ok(text)
+    format!(in heap; "{head}{tail}")
 }
 
 // A text over and over.
 pub(crate) fn repeated(part: &str, times: usize, heap: Global) -> Result<String, AllocError> {
-    let mut text = String::new(heap);
-    for _ in 0..times {
-        text.push_str(part)?;
-    }
-    Ok(text)
+    part.repeat(heap, times)
 }
 
 // The listing of a sheet that has no report.

@@ -10,10 +10,11 @@ use std::marker::Model;
 mod calls;
 
 // A wire table: at most 256 wires, none from a point to itself, at most four from one point.
+// Over the one list as a job table is, and a type of its own, since its wires have a law together.
 #[derive(Drop)]
 pub struct WireTable {
     wires: FixedList<Wire, 256>,
-    // how many wires lead from each point, so that a fifth is seen at once
+    // how many wires lead from each point: an index, so that no push searches the wires for a fifth
     leaving: [u8; 256],
 }
 

@@ -45,7 +45,7 @@ impl<T: Copy, const N: usize> FixedList<T, N> {
     pub fn push(&mut self, x: T) -> Result<(), T>
         ensures { Pushed N (λ y. y) (list_of self.old) x result (list_of self.new) }
     {
-        if self.is_full() {
+        if self.len >= N {
             return Err(x);
         }
         self.items[self.len] = x;

@@ -40,6 +40,7 @@ fn points_within(points: &[u32]) -> Result<FixedList<u8, 8>, FieldFault>
     }
     let mut list = FixedList::new(0);
     for point in points {
+        // there is room for 8
         let _ = list.push(at_most(*point, u8::MAX)?);
     }
     Ok(list)

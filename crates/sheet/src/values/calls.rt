@@ -36,9 +36,8 @@ impl Values {
     {
         match (column, reader.field(column)?) {
             (_, Field::Letter(letter)) => self.letter = letter,
-            // at most 9, so the cast keeps it
-            (Column::Urg, Field::Number(urgency)) => self.urgency = urgency as u8,
-            (_, Field::Number(argument)) => self.argument = argument,
+            (Column::Urg, Field::Number(n)) => self.urgency = u8::try_from(n).unwrap(),
+            (_, Field::Number(n)) => self.argument = n,
             (_, Field::List(part, _)) => self.points = points(part)?,
         }
         Ok(())

@@ -5,7 +5,7 @@ use Rattle.fixed.specs.Fixed.{list_of}
 use Rattle.job.specs.Records.{job_of, draft_of}
 use Rattle.fixed.proofs.Pushing.{pushed_room}
 use Rattle.job.proofs.Highest.{job_read}
-use Rattle.listing.proofs.Rows.{rows_more, rows_all, earlier_more, clash_here}
+use Rattle.listing.proofs.Rows.{rows_more, earlier_more, clash_here}
 use Rattle.listing.proofs.check.clashes.Goals as goal
 
 pub loop-job-preserved : goal.loop-job-preserved
@@ -26,10 +26,3 @@ loop-job-preserved c =
       rows_more js i (list_of c.loop-job.rows) (list_of c.push.new.self) c.in-Ok.clash rows row
           (clash_here js c.loop-job.earlier i (draft_of c.in_ok-draft.draft) c.in-Ok.clash before (c.in_ok-draft.ensures.same ∙ sym here) answer),
     )
-
-pub returns : goal.returns
-returns c =
-    let items = c.records-job-items.result.now in
-    let many = length-map items job_of in
-    let all = rows_all (map job_of items) c.loop-job.job-index (list_of c.loop-job.rows) (omega arith) c.loop-job.invariant.2 in
-    rw (← c.records-job-items.ensures.value) all
