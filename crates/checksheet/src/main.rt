@@ -23,7 +23,7 @@ enum Failure {
     Stream(#[from] io::Error),
 }
 
-// Want of memory is told as a stream tells it.
+// Written out, since want of memory is told as an error of the stream.
 impl From<AllocError> for Failure {
     fn from(error: AllocError) -> Failure {
         Failure::Stream(error.into())

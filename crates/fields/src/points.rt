@@ -9,7 +9,8 @@ use crate::shape::at_most;
 use fixed::list::FixedList;
 use job::fault::FieldFault;
 
-// The numbers between commas, of which there are at most 8.
+// The numbers between commas, of which there are at most 8. The caller has counted them; a type that says so would be
+// made for this one call.
 fn listed(text: &[u8]) -> Result<FixedList<u8, 8>, FieldFault>
     requires { length (all_of (cut 44 text.now)) ≤ 8 }
     ensures { Means list_of (each (number_of 255) (all_of (cut 44 text.now))) result }
@@ -27,7 +28,7 @@ fn listed(text: &[u8]) -> Result<FixedList<u8, 8>, FieldFault>
 pub fn points(text: &[u8]) -> Result<FixedList<u8, 8>, FieldFault>
     ensures { Means list_of (points_of text.now) result }
 {
-    // `==`, since behind a pattern `[b'-']` the proof did not close
+    // `==`, since a proof does not close behind the pattern `[b'-']`
     if text == b"-".as_slice() {
         return Ok(FixedList::new(0));
     }

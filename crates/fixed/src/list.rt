@@ -12,8 +12,8 @@ pub struct FixedList<T: Copy, const N: usize> {
     ghost within: { len ≤ N },
 }
 
-// By hand: `derive(Clone, Copy)` is refused for a struct with a ghost field and a type parameter (tried), and a model
-// that shows only the list would not be `Copy`.
+// By hand: `derive(Clone, Copy)` is refused for a struct with a ghost field and a type parameter, and a model that shows
+// only the list would not be `Copy`.
 impl<T: Copy, const N: usize> Clone for FixedList<T, N> {
     ghost is_clone = { λ list copy. copy ≡ list };
 

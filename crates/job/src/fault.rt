@@ -28,7 +28,7 @@ pub enum PreviewFault {
     Candidate(JobFault),
 }
 
-// Written out, since a derived `From` does not say which fault it gives.
+// Both written out, since a derived `From` does not say which fault it gives.
 impl From<FieldFault> for JobFault {
     ghost from_gives = { λ e r. r ≡ Field e };
 

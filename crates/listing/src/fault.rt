@@ -21,7 +21,7 @@ pub enum CheckFault {
     NoMemory,
 }
 
-// Both by hand, since a derived `From` does not say which fault it gives.
+// Written out, since a derived `From` does not say which fault it gives.
 impl From<SheetFault> for CheckFault {
     ghost from_gives = { λ e r. r ≡ Sheet e };
 
@@ -30,6 +30,7 @@ impl From<SheetFault> for CheckFault {
     }
 }
 
+// Written out, since the error is not kept.
 impl From<AllocError> for CheckFault {
     ghost from_gives = { λ _ r. r ≡ NoMemory };
 

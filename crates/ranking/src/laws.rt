@@ -37,7 +37,7 @@ pub fn standings_each_once<P: Precedence>(precedence: &P)
     ensures once { GenerationEachOnce (below_by P.Key.cmp) (eq_by_cmp P.Key.cmp) (P.keyed precedence.now) }
 {}
 
-// A derived comparison has no code that a contract could stand on. So each function from here on compares by the type's
+// A derived comparison, or the library's, has no code here that a contract could stand on. So each function from here on compares by the type's
 // own comparison, by which `count_below` counts too, and its clause `order` or `equality` says that this comparison
 // answers as the subject's test does, whatever the values.
 

@@ -15,7 +15,8 @@ use fields::shape::expect_fields;
 use job::table::JobTable;
 use spelling::fault::LineFault;
 
-// The four fields of a job line, which stand in the order of the columns. The one caller has just counted them.
+// The four fields of a job line, which stand in the order of the columns. The caller has counted them;
+// a type that says so would be made for this one call.
 fn job_fields(order: &ColumnOrder, line: &[u8]) -> Result<Values, LineFault>
     requires { length (all_of (cut 32 line.now)) ≡ 4 }
     ensures { Means values_of (fields (columns_of order.now) (all_of (cut 32 line.now)) 1 no_record) result }

@@ -19,7 +19,8 @@ use job::table::JobTable;
 use spelling::fault::{LineFault, SheetFault};
 use wiring::table::WireTable;
 
-// That nothing is left behind the last line that has its end. What is left has none, or is a line too many.
+// That nothing is left behind the last line that has its end. A line that is left has none; where the table is full, it
+// is one too many.
 fn at_end(reader: &Reader<'_>, line: usize, too_many: Option<LineFault>) -> Result<(), SheetFault>
     ensures { result ≡ given (empty (rest_of reader.now)) (AtLine line (unwrap_or too_many Unended)) (Ok tt) }
 {

@@ -10,7 +10,8 @@ use spelling::fault::LineFault;
 use wiring::table::WireTable;
 use wiring::wire::Wire;
 
-// The three fields of a wire line. The one caller has just counted them.
+// The three fields of a wire line. The caller has counted them;
+// a type that says so would be made for this one call.
 fn three_fields(line: &[u8]) -> Result<Wire, LineFault>
     requires { length (all_of (cut 32 line.now)) ≡ 3 }
     ensures { result ≡ wire_fields (all_of (cut 32 line.now)) }

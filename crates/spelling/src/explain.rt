@@ -2,7 +2,8 @@
 use job::fault::FieldFault;
 use std::fmt;
 
-// A field's fault, as it is said of a sheet: of the letters that a record may have, a sheet names two.
+// A field's fault, as it is said of a sheet: of the letters that a record may have, a sheet names two. Written out, since
+// a derive would stand at the enum, which does not know of sheets.
 #[derive(Clone, Copy)]
 pub(crate) struct InSheet(pub(crate) FieldFault);
 

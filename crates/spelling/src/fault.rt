@@ -48,7 +48,7 @@ pub enum SheetFault {
     AtLine(usize, LineFault),
 }
 
-// These are written out, since a derived `From` does not say which fault it gives, and since a place comes with the fault.
+// Written out, as is that of a sheet's faults: a derived `From` does not say which fault it gives.
 impl From<(usize, FieldFault)> for LineFault {
     ghost from_gives = { λ e r. r ≡ AtField e.0 e.1 };
 
@@ -57,6 +57,7 @@ impl From<(usize, FieldFault)> for LineFault {
     }
 }
 
+// Written out, since each case becomes another.
 impl From<WireFault> for LineFault {
     ghost from_gives = { λ e r. r ≡ wire_fault e };
 

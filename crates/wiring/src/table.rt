@@ -14,7 +14,7 @@ mod calls;
 #[derive(Drop)]
 pub struct WireTable {
     wires: FixedList<Wire, 256>,
-    // how many wires lead from each point: an index, so that no push searches the wires for a fifth
+    // how many wires lead from each point: where an index serves, no wires are searched
     leaving: [u8; 256],
 }
 
