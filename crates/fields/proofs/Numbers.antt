@@ -12,7 +12,7 @@ use Rattle.job.specs.declared.fault.FieldFault.{FieldFault}
 use Rattle.job.specs.declared.fault.FieldFault.TheVariants.{NoNumber, AboveRange}
 use Rattle.spelling.specs.Fields.{number, plain}
 use Rattle.spelling.proofs.Values.{number_exactly_written}
-use Rattle.fields.specs.Fields.{Written, read_on}
+use Rattle.fields.specs.Fields.{Written}
 
 all_digits : (t : List ℕ) → list_all is_ascii_digit t ≡ all_ascii_digits t
 all_digits [] = refl
@@ -20,6 +20,10 @@ all_digits (c ∷ t) = rw (all_digits t)
 
 digit_is : (x : ℕ) → IsInRange 48 57 x → digit_value x ≡ x - 48
 digit_is x h = grind (arith, nat_tests)
+
+-- the number n with one digit more behind it, or the greatest number of 64 bits
+abbrev pub read_on : ℕ → ℕ → ℕ
+read_on n b = min (min (n * 10) (2 ^ 64 - 1) + (b - 48)) (2 ^ 64 - 1)
 
 read_on_value : (v n c : ℕ) → IsInRange 48 57 c → n ≡ min v (2 ^ 64 - 1) → read_on n c ≡ min (v * 10 + digit_value c) (2 ^ 64 - 1)
 read_on_value v n c h e = rw (digit_is c h) (omega arith)
@@ -38,9 +42,9 @@ pub number_none : (top : ℕ) (t : List ℕ) → false ≡ (list_all is_ascii_di
 number_none top t h = rw (← all_digits t, ← h)
 
 -- v is what the digits write, as far as it goes
-module _ (top v : ℕ) (t : List ℕ) (h : true ≡ (list_all is_ascii_digit t && plain t)) (e : v ≡ fold read_on 0 t) where
+module _ (top v : ℕ) (t : List ℕ) (h : true ≡ (list_all is_ascii_digit t && plain t)) (e : all_ascii_digits t ≡ true → v ≡ min (digits_value 10 t) (2 ^ 64 - 1)) where
   value_is : v ≡ min (digits_value 10 t) (2 ^ 64 - 1)
-  value_is = rw e (reads t (sym (all_digits t) ∙ (and_parts (list_all is_ascii_digit t) (plain t) (sym h)).0))
+  value_is = e (sym (all_digits t) ∙ (and_parts (list_all is_ascii_digit t) (plain t) (sym h)).0)
 
   pub number_above : top < v → top < 2 ^ 32 → Err (AboveRange top) ≡ number top t
   number_above k b = let z : top < digits_value 10 t = omega (arith, value_is) in rw (← all_digits t, ← h, lt-leb (digits_value 10 t) top z)
@@ -51,4 +55,4 @@ module _ (top v : ℕ) (t : List ℕ) (h : true ≡ (list_all is_ascii_digit t &
 -- exactly what one writes for a number is read as it
 pub written_exactly : (top : ℕ) (t : List ℕ) (r : Result ℕ FieldFault) → top < 2 ^ 32 → r ≡ number top t → Written top t r
 written_exactly top t (Ok n) h e = (number_exactly_written top (omega arith) t n).0 (sym e)
-written_exactly top t (Err f) h e = λ n l w. let k = (number_exactly_written top (omega arith) t n).1 (w, l) in absurd (let z : ◌≡◌ {A = ℕ} 0 1 = cc in omega arith)
+written_exactly top t (Err f) h e = λ n l w. let k = (number_exactly_written top (omega arith) t n).1 (w, l) in absurd cc

@@ -1,5 +1,5 @@
 -- What a field of a column holds.
-use Rattle.std.specs.Prelude.{◌≡◌, ℕ, ◌+◌, ◌-◌, ◌*◌, ◌^◌, ◌≤◌, min, List, Ok, decimal, Result, MatchResult, ◌≢◌}
+use Rattle.std.specs.Prelude.{◌≡◌, ℕ, ◌≤◌, List, Ok, decimal, Result, MatchResult, ◌≢◌}
 use Rattle.job.specs.declared.fault.FieldFault.{FieldFault}
 use Rattle.fixed.specs.Results.{and_then}
 use Rattle.spelling.specs.declared.column.Column.{Column}
@@ -24,7 +24,3 @@ Reads Points t at r = MatchResult r (IsList t at) (λ _. ⊥)
 -- the number that was written, or no number within the range was written
 abbrev pub Written : ℕ → List ℕ → Result ℕ FieldFault → Type 0
 Written top t r = MatchResult r (λ n. (t ≡ decimal n) × (n ≤ top)) (λ _. (n : ℕ) → n ≤ top → t ≢ decimal n)
-
--- the number n with one digit more behind it, or the greatest number of 64 bits
-abbrev pub read_on : ℕ → ℕ → ℕ
-read_on n b = min (min (n * 10) (2 ^ 64 - 1) + (b - 48)) (2 ^ 64 - 1)

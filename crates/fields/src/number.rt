@@ -1,8 +1,10 @@
-ghost use Rattle.std.specs.Prelude.{◌≡◌, ◌&&◌, fold};
+ghost use Rattle.std.specs.Prelude.{◌≡◌, ◌-◌, ◌^◌, ◌&&◌, min, true};
 ghost use Rattle.std.specs.Char.{is_ascii_digit};
 ghost use Rattle.std.specs.List.{list_all};
+ghost use Rattle.std.specs.Str.{all_ascii_digits};
+ghost use Rattle.std.specs.Str.Parse.{digits_value};
 ghost use Rattle.spelling.specs.Fields.{number as number_of, plain};
-ghost use Rattle.fields.specs.Fields.{Written, read_on};
+ghost use Rattle.fields.specs.Fields.{Written};
 
 use job::fault::FieldFault;
 
@@ -26,7 +28,7 @@ fn is_numeral(text: &[u8]) -> bool
 
 // What some digits write, or the greatest number where that is less: so no text is too long.
 fn value(digits: &[u8]) -> u64
-    ensures { result ≡ fold read_on 0 digits.now }
+    ensures { all_ascii_digits digits.now ≡ true → result ≡ min (digits_value 10 digits.now) (2 ^ 64 - 1) }
 {
     digits.iter().fold(0, |n: u64, b| {
         let digit = b.saturating_sub(b'0');
@@ -53,5 +55,6 @@ pub fn byte(text: &[u8]) -> Result<u8, FieldFault>
     ensures { result ≡ number_of 255 text.now }
 {
     let n = number(text, 255)?;
+    // at most 255, so there is a value
     Ok(u8::try_from(n).unwrap())
 }

@@ -36,6 +36,7 @@ impl Values {
     {
         match (column, reader.field(column)?) {
             (_, Field::Letter(letter)) => self.letter = letter,
+            // at most 9, so there is a value
             (Column::Urg, Field::Number(n)) => self.urgency = u8::try_from(n).unwrap(),
             (_, Field::Number(n)) => self.argument = n,
             (_, Field::List(part, _)) => self.points = points(part)?,
