@@ -15,7 +15,7 @@ use Rattle.job.specs.Admitted.{admitted, no_record}
 use Rattle.fixed.specs.Lists.{has}
 use Rattle.job.specs.Plain.{Job, clashes}
 use Rattle.job.specs.Records.{job_of}
-use Rattle.job.specs.Preview.{blank_marks, marked, Marked, HighestMarked, HighestClash, job_at}
+use Rattle.job.specs.Preview.{blank_marks, marked, HighestMarked, HighestClash, job_at}
 use Rattle.job.proofs.Admitting.{admitted_same}
 
 -- ## Marks
@@ -55,6 +55,10 @@ highest ms js None s h e = let n = length-map js job_of in rw e (λ k a b. at ms
 highest ms js (Some i) s (l, here, above) e =
     let n = length-map js job_of in
     rw (e, add-sub_cancel i 1) (omega arith, omega arith, at ms js i true l here, λ k a b. at ms js k false (omega arith) (λ d. above k d (omega arith) (omega arith)))
+
+-- exactly these points are marked
+abbrev pub Marked : List ℕ → List ℕ → Type 0
+Marked ms ps = (p : ℕ) → marked ms p ≡ has ps p
 
 -- ## Jobs that clash
 -- the jobs that have a marked point are those that clash with a job whose points are marked

@@ -6,7 +6,6 @@ use Rattle.std.specs.List.{list_any}
 use Rattle.job.specs.declared.fault.PreviewFault.{PreviewFault}
 use Rattle.job.specs.declared.fault.PreviewFault.TheVariants.{WrongLength, Candidate}
 use Rattle.job.specs.Admitted.{admitted, no_record}
-use Rattle.fixed.specs.Lists.{has}
 use Rattle.job.specs.Plain.{Job, clashes}
 
 -- the job at a place, counted from 0: job number n stands at n - 1
@@ -28,10 +27,6 @@ blank_marks = replicate 256 0
 -- whether a point's mark is not blank
 abbrev pub marked : List ℕ → ℕ → Bool
 marked ms p = not (slice_index ms p == 0)
-
--- exactly these points are marked
-abbrev pub Marked : List ℕ → List ℕ → Type 0
-Marked ms ps = (p : ℕ) → marked ms p ≡ has ps p
 
 -- no job from place i on has a marked point
 abbrev pub UnmarkedFrom : List ℕ → List Job → ℕ → Type 0
