@@ -1,56 +1,61 @@
 -- The digits of a number, one by one.
-use Rattle.std.proofs.Common.{◌≡◌, ℕ, ◌+◌, ◌-◌, ◌*◌, ◌^◌, ◌<◌, ◌≤◌, true, false, ◌&&◌, min, fold, List, [], ◌∷◌, Ok, Err, Result, sym, refl, ◌∙◌, arith}
-use Rattle.std.proofs.lemmas.Str.Parse.{tells_all_ascii_digits}
-use Rattle.std.proofs.lemmas.Bool.{le-leb, lt-leb, and_parts}
+use Rattle.std.proofs.Common.{◌≡◌, ℕ, ◌+◌, ◌-◌, ◌*◌, ◌^◌, ◌<◌, ◌≤◌, true, false, ◌⊎◌, inl, inr, min, List, length, get_or, take, Ok, Err, Result, sym, arith}
+use Rattle.std.proofs.lemmas.Int.Digits.{digits_value_more, digits_more}
+use Rattle.std.proofs.lemmas.List.{take_all}
+use Rattle.std.proofs.lemmas.Str.Parse.{IsNumeralModel, numerals_by_value, tells_all_ascii_digits, digit_at}
+use Rattle.std.proofs.lemmas.Bool.{le-leb, lt-leb}
 use Rattle.std.proofs.lemmas.Bool.Decides.{nat_tests}
 use Rattle.std.specs.Str.{all_ascii_digits}
-use Rattle.std.specs.List.{list_all}
 use Rattle.std.specs.Int.{IsInRange}
-use Rattle.std.specs.Char.{digit_value, is_ascii_digit}
-use Rattle.std.specs.Str.Parse.{digits_value, digits_value_after}
+use Rattle.std.specs.Char.{digit_value}
+use Rattle.std.specs.Str.Parse.{digits_value}
 use Rattle.job.specs.declared.fault.FieldFault.{FieldFault}
 use Rattle.job.specs.declared.fault.FieldFault.TheVariants.{NoNumber, AboveRange}
+use Rattle.fixed.proofs.Pushing.{by_bool}
 use Rattle.spelling.specs.Fields.{number, plain}
 use Rattle.spelling.proofs.Values.{number_exactly_written}
 use Rattle.fields.specs.Fields.{Written}
 
-all_digits : (t : List ℕ) → list_all is_ascii_digit t ≡ all_ascii_digits t
-all_digits [] = refl
-all_digits (c ∷ t) = rw (all_digits t)
+own : IsNumeralModel (λ ds. all_ascii_digits ds ≡ true) (digits_value 10)
+own = numerals_by_value (λ ds. all_ascii_digits ds ≡ true) tells_all_ascii_digits
 
 digit_is : (x : ℕ) → IsInRange 48 57 x → digit_value x ≡ x - 48
 digit_is x h = grind (arith, nat_tests)
 
--- the number n with one digit more behind it, or the greatest number of 64 bits
-abbrev pub read_on : ℕ → ℕ → ℕ
-read_on n b = min (min (n * 10) (2 ^ 64 - 1) + (b - 48)) (2 ^ 64 - 1)
+pub no_digit : (t : List ℕ) (i : ℕ) → i < length t → (IsInRange 48 57 (get_or t i 0) → ⊥) → all_ascii_digits t ≡ false
+no_digit t i h n = by_bool (all_ascii_digits t) (λ e. absurd (n (digit_at t i (own.to t e) h))) (λ e. e)
 
-read_on_value : (v n c : ℕ) → IsInRange 48 57 c → n ≡ min v (2 ^ 64 - 1) → read_on n c ≡ min (v * 10 + digit_value c) (2 ^ 64 - 1)
-read_on_value v n c h e = rw (digit_is c h) (omega arith)
+pub digits_next : (t : List ℕ) (i : ℕ) → i < length t → all_ascii_digits (take i t) ≡ true → IsInRange 48 57 (get_or t i 0) → all_ascii_digits (take (i + 1) t) ≡ true
+digits_next t i h d n = own.from (take (i + 1) t) (digits_more 10 t i h (own.to (take i t) d) (rw (digit_is (get_or t i 0) n) (omega arith)))
 
--- digits that are read one by one
-reads_after : (v n : ℕ) (ds : List ℕ) → all_ascii_digits ds ≡ true → n ≡ min v (2 ^ 64 - 1) → fold read_on n ds ≡ min (digits_value_after 10 v ds) (2 ^ 64 - 1)
-reads_after v n [] d e = e
-reads_after v n (c ∷ ds) d e =
-    let (p, q) = tells_all_ascii_digits.parts c ds d in
-    reads_after (v * 10 + digit_value c) (read_on n c) ds q (read_on_value v n c p e)
+-- n and v are the same, or both beyond 32 bits
+abbrev pub Alike : ℕ → ℕ → Type 0
+Alike n v = min n (2 ^ 32) ≡ min v (2 ^ 32)
 
-pub reads : (ds : List ℕ) → all_ascii_digits ds ≡ true → fold read_on 0 ds ≡ min (digits_value 10 ds) (2 ^ 64 - 1)
-reads ds d = reads_after 0 0 ds d refl
+pub value_next : (n : ℕ) (t : List ℕ) (i : ℕ) → i < length t → IsInRange 48 57 (get_or t i 0) → Alike n (digits_value 10 (take i t)) → (m : ℕ) →
+    ((n < 2 ^ 32) × (m ≡ n * 10 + (get_or t i 0 - 48))) ⊎ ((2 ^ 32 ≤ n) × (m ≡ n)) → Alike m (digits_value 10 (take (i + 1) t))
+value_next n t i h d near m (inl w) = rw (digits_value_more 10 t i h, digit_is (get_or t i 0) d) (omega (arith, w.0, w.1))
+value_next n t i h d near m (inr w) = rw (digits_value_more 10 t i h) (omega (arith, w.0, w.1))
 
-pub number_none : (top : ℕ) (t : List ℕ) → false ≡ (list_all is_ascii_digit t && plain t) → Err NoNumber ≡ number top t
-number_none top t h = rw (← all_digits t, ← h)
+pub whole_digits : (t : List ℕ) (i : ℕ) → length t ≤ i → all_ascii_digits (take i t) ≡ true → all_ascii_digits t ≡ true
+whole_digits t i h d = rw (take_all i t h) at d
 
--- v is what the digits write, as far as it goes
-module _ (top v : ℕ) (t : List ℕ) (h : true ≡ (list_all is_ascii_digit t && plain t)) (e : all_ascii_digits t ≡ true → v ≡ min (digits_value 10 t) (2 ^ 64 - 1)) where
-  value_is : v ≡ min (digits_value 10 t) (2 ^ 64 - 1)
-  value_is = e (sym (all_digits t) ∙ (and_parts (list_all is_ascii_digit t) (plain t) (sym h)).0)
+pub whole_value : (n : ℕ) (t : List ℕ) (i : ℕ) → length t ≤ i → Alike n (digits_value 10 (take i t)) → Alike n (digits_value 10 t)
+whole_value n t i h d = rw (take_all i t h) at d
 
-  pub number_above : top < v → top < 2 ^ 32 → Err (AboveRange top) ≡ number top t
-  number_above k b = let z : top < digits_value 10 t = omega (arith, value_is) in rw (← all_digits t, ← h, lt-leb (digits_value 10 t) top z)
+pub number_not_plain : (top : ℕ) (t : List ℕ) → false ≡ plain t → Err NoNumber ≡ number top t
+number_not_plain top t p = by_bool (all_ascii_digits t) (λ e. rw (e, ← p)) (λ e. rw e)
 
-  pub number_within : v ≤ top → top < 2 ^ 32 → Ok v ≡ number top t
-  number_within k b = let z : v ≡ digits_value 10 t = omega (arith, value_is) in rw (z, ← all_digits t, ← h, le-leb (digits_value 10 t) top (omega arith))
+pub number_none : (top : ℕ) (t : List ℕ) → all_ascii_digits t ≡ false → Err NoNumber ≡ number top t
+number_none top t d = rw d
+
+-- n is what the digits write, as far as it goes
+module _ (top n : ℕ) (t : List ℕ) (p : true ≡ plain t) (d : all_ascii_digits t ≡ true) (e : Alike n (digits_value 10 t)) where
+  pub number_above : top < n → top < 2 ^ 32 → Err (AboveRange top) ≡ number top t
+  number_above k b = let z : top < digits_value 10 t = omega (arith, e) in rw (d, ← p, lt-leb (digits_value 10 t) top z)
+
+  pub number_within : n ≤ top → top < 2 ^ 32 → Ok n ≡ number top t
+  number_within k b = let z : n ≡ digits_value 10 t = omega (arith, e) in rw (z, d, ← p, le-leb (digits_value 10 t) top (omega arith))
 
 -- exactly what one writes for a number is read as it
 pub written_exactly : (top : ℕ) (t : List ℕ) (r : Result ℕ FieldFault) → top < 2 ^ 32 → r ≡ number top t → Written top t r

@@ -1,10 +1,9 @@
 -- The steps of the reader.
-use Rattle.std.proofs.Common.{◌≡◌, ℕ, ◌+◌, Bool, false, not, eqb, ltb, List, [], ◌∷◌, length, take, drop, count_by, sym, refl, ap, ◌∙◌, arith}
+use Rattle.std.proofs.Common.{◌≡◌, ℕ, zero, suc, ◌+◌, Bool, true, false, not, eqb, leb, ltb, List, [], ◌∷◌, length, take, drop, Some, None, Option, sym, refl, ap, ◌∙◌, arith}
 use Rattle.std.proofs.Math.Numerals.{one-add}
 use Rattle.std.proofs.lemmas.List.{take_all}
-use Rattle.std.proofs.lemmas.Bool.{ne_eqb, eqb-true, ltb-true, ltb-false}
+use Rattle.std.proofs.lemmas.Bool.{le-leb, lt-leb, eqb-true, ltb-true, ltb-false}
 use Rattle.std.proofs.lemmas.List.Sums.{passes_at_first, split_at_first}
-use Rattle.std.proofs.lemmas.List.Splits.{length-slice_split}
 use Rattle.std.proofs.lemmas.Iterator.{YieldsList}
 use Rattle.std.proofs.lemmas.Iterator.Splits.{YieldsList-from_slice_split}
 use Rattle.std.specs.Borrow.{Bor}
@@ -12,10 +11,11 @@ use Rattle.std.specs.Fn.{CalledAt}
 use Rattle.std.specs.Slice.Iter.{split_rest, split_done, split_callee, split_steps}
 use Rattle.std.specs.declared.slice.Split.{Split}
 use denote.Param.Members.{Mut}
-use Rattle.std.specs.List.{position, position_or_len, slice_split, onto_first, list_all}
+use Rattle.std.specs.List.{position, position_or_len, slice_split, slice_get, onto_first}
+use Rattle.std.specs.Option.{option_map, is_some, is_none}
 use Rattle.std.specs.Cmp.Lexicographic.{pointwise}
 use Rattle.fixed.proofs.Pushing.{by_bool}
-use Rattle.spelling.specs.Texts.{Pieces, last, more, onto, cut, all_of, same, empty}
+use Rattle.spelling.specs.Texts.{Pieces, last, more, onto, cut, all_of, same}
 use Rattle.spelling.proofs.Basics.{Free, cut_more, cut_last}
 use Rattle.fields.specs.declared.reader.Reader.{Reader}
 use Rattle.fields.specs.Reading.{Ends, rest_of, pieces_of}
@@ -52,20 +52,27 @@ pub split_cut : (c : ℕ) (t : List ℕ) → slice_split (λ b. eqb b c) t ≡ a
 split_cut c [] = refl
 split_cut c (b ∷ t) = by_bool (eqb b c) (λ e. rw (e, split_cut c t)) (λ e. rw (e, split_cut c t, split_onto b (cut c t)))
 
-pub pieces_count : (c : ℕ) (t : List ℕ) → count_by (λ b. eqb b c) t + 1 ≡ length (all_of (cut c t))
-pieces_count c t = rw (← split_cut c t) (sym (length-slice_split (λ b. eqb b c) t))
-
 pub yields_pieces : {F : Type 0} {s : Split ℕ F} (g : Mut F (Bor ℕ × Unit {0}) Bool) (c : ℕ) {f : F} (t : List ℕ) → split_rest s ≡ t → split_done s ≡ false → split_callee s ≡ f →
     ((x : ℕ) (b : Bool) (q : F) → CalledAt g f x b q → (q ≡ f) × (b ≡ eqb x c)) → YieldsList (split_steps g) (λ x. x.now) s (all_of (cut c t))
 yields_pieces g c t r d p h = rw (← split_cut c t) (YieldsList-from_slice_split g (λ b. eqb b c) t r d p h)
 
-empty_length : (t : List ℕ) → eqb (length t) 0 ≡ empty t
-empty_length [] = refl
-empty_length (b ∷ t) = ne_eqb (length (b ∷ t)) 0 (λ e. omega arith)
+-- nothing is there at place n exactly if there are at most n
+none_at : {B : Type 0} (n : ℕ) (xs : List B) → is_none (slice_get xs n) ≡ leb (length xs) n
+none_at zero [] = refl
+none_at (suc n) [] = sym (le-leb 0 (suc n) (omega arith))
+none_at zero (x ∷ xs) = sym (lt-leb (length (x ∷ xs)) 0 (omega arith))
+none_at (suc n) (x ∷ xs) = none_at n xs ∙ grind arith
 
-pub some_in_each : (ts : List (List ℕ)) → list_all (λ t. not (eqb (length t) 0)) ts ≡ list_all (λ t. not (empty t)) ts
-some_in_each [] = refl
-some_in_each (t ∷ ts) = rw (empty_length t, some_in_each ts)
+none_shown : {A B : Type 0} (v : A → B) (r : Option A) → is_none r ≡ is_none (option_map v r)
+none_shown v (Some x) = refl
+none_shown v None = refl
+
+turned : (b c : Bool) → c ≡ not b → b ≡ not c
+turned true c e = rw e
+turned false c e = rw e
+
+pub none_behind : {A B : Type 0} (v : A → B) (r : Option A) (n : ℕ) (xs : List B) (b : Bool) → is_some r ≡ not b → option_map v r ≡ slice_get xs n → b ≡ leb (length xs) n
+none_behind v r n xs b h e = turned b (is_some r) h ∙ none_shown v r ∙ ap is_none e ∙ none_at n xs
 
 -- a reader that has handed on nothing yet
 pub fresh_pieces : (c : ℕ) (r : Reader) (t : List ℕ) → rest_of r ≡ t → r.done ≡ false → pieces_of c r ≡ all_of (cut c t)

@@ -1,6 +1,4 @@
-ghost use Rattle.std.specs.Prelude.{◌≡◌, ◌-◌, ◌^◌, ◌&&◌, min, true};
-ghost use Rattle.std.specs.Char.{is_ascii_digit};
-ghost use Rattle.std.specs.List.{list_all};
+ghost use Rattle.std.specs.Prelude.{◌≡◌, ◌^◌, min, true, false, MatchOption};
 ghost use Rattle.std.specs.Str.{all_ascii_digits};
 ghost use Rattle.std.specs.Str.Parse.{digits_value};
 ghost use Rattle.spelling.specs.Fields.{number as number_of, plain};
@@ -19,21 +17,36 @@ fn is_plain(text: &[u8]) -> bool
     }
 }
 
-// Whether a text is what one may write for a number: digits without leading zeros.
-fn is_numeral(text: &[u8]) -> bool
-    ensures { result ≡ (list_all is_ascii_digit text.now && plain text.now) }
+// What a text of digits writes, or some number beyond 32 bits where that is beyond them: so no text is too long.
+// A loop and no chain: each byte is looked at once, and the first that is no digit ends the reading.
+fn value(text: &[u8]) -> Option<u64>
+    ensures { MatchOption result (all_ascii_digits text.now ≡ false) (λ n. (all_ascii_digits text.now ≡ true) × (min n (2 ^ 32) ≡ min (digits_value 10 text.now) (2 ^ 32))) }
 {
-    text.iter().all(u8::is_ascii_digit) && is_plain(text)
+    let mut n: u64 = 0;
+    for b in text {
+        if !b.is_ascii_digit() {
+            return None;
+        }
+        // once beyond 32 bits it stays there
+        if n <= u64::from(u32::MAX) {
+            n = n * 10 + u64::from(*b - b'0');
+        }
+    }
+    Some(n)
 }
 
-// What some digits write, or the greatest number where that is less: so no text is too long.
-fn value(digits: &[u8]) -> u64
-    ensures { all_ascii_digits digits.now ≡ true → result ≡ min (digits_value 10 digits.now) (2 ^ 64 - 1) }
+// By its value and its shape alone; that this is what one writes for it is said by `number`.
+fn parse(text: &[u8], top: u32) -> Result<u32, FieldFault>
+    ensures { result ≡ number_of top text.now }
 {
-    digits.iter().fold(0, |n: u64, b| {
-        let digit = b.saturating_sub(b'0');
-        n.saturating_mul(10).saturating_add(u64::from(digit))
-    })
+    if !is_plain(text) {
+        return Err(FieldFault::NoNumber);
+    }
+    let n = value(text).ok_or(FieldFault::NoNumber)?;
+    match u32::try_from(n) {
+        Ok(n) if n <= top => Ok(n),
+        _ => Err(FieldFault::AboveRange(top)),
+    }
 }
 
 // A number of at most `top`, in base-ten digits without leading zeros: exactly what one writes for it is read.
@@ -41,13 +54,7 @@ pub fn number(text: &[u8], top: u32) -> Result<u32, FieldFault>
     ensures value { result ≡ number_of top text.now }
     ensures written { Written top text.now result }
 {
-    if !is_numeral(text) {
-        return Err(FieldFault::NoNumber);
-    }
-    match u32::try_from(value(text)) {
-        Ok(n) if n <= top => Ok(n),
-        _ => Err(FieldFault::AboveRange(top)),
-    }
+    parse(text, top)
 }
 
 // A number of at most 255.

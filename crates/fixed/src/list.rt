@@ -1,4 +1,4 @@
-ghost use Rattle.std.specs.Prelude.{◌≡◌, ◌≤◌, ⊤};
+ghost use Rattle.std.specs.Prelude.{◌≡◌, ◌≤◌, ⊤, length};
 
 use std::alloc::AllocError;
 
@@ -9,6 +9,8 @@ mod calls;
 pub struct FixedList<T: Copy, const N: usize> {
     items: [T; N],
     len: usize,
+    // behind a reference a proof is not told the length of an array
+    ghost whole: { length items ≡ N },
     ghost within: { len ≤ N },
 }
 

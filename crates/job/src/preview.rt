@@ -1,5 +1,5 @@
 ghost use Rattle.std.specs.Prelude.{◌≡◌};
-ghost use Rattle.job.specs.Records.{draft_of};
+ghost use Rattle.job.specs.Records.{jobs_of, draft_of};
 ghost use Rattle.job.specs.Preview.{blank_marks, Answered, Previewed, Blanked};
 
 use crate::draft::JobDraft;
@@ -14,7 +14,7 @@ fn highest_clash(
     draft: &JobDraft,
     marks: &mut [u8; 256],
 ) -> Result<Option<usize>, PreviewFault>
-    ensures answer { Answered table.now (draft_of draft.now) result }
+    ensures answer { Answered (jobs_of table.now) (draft_of draft.now) result }
     ensures blanked { marks.new ≡ blank_marks }
 {
     let mut guard = MarkGuard::new(marks);
@@ -29,7 +29,7 @@ pub fn preview(
     draft: &JobDraft,
     marks: &mut [u8],
 ) -> Result<Option<usize>, PreviewFault>
-    ensures answer { Previewed table.now (draft_of draft.now) marks.old result }
+    ensures answer { Previewed (jobs_of table.now) (draft_of draft.now) marks.old result }
     ensures blanked { Blanked marks.old marks.new }
 {
     let Some(marks) = marks.as_mut_array() else {

@@ -1,5 +1,6 @@
 ghost use Rattle.std.specs.Prelude.{IfOk};
 ghost use Rattle.fixed.specs.Fixed.{list_of};
+ghost use Rattle.job.specs.Records.{jobs_of};
 ghost use Rattle.listing.specs.Reports.{ClashRows, Checked};
 
 use crate::fault::CheckFault;
@@ -16,7 +17,7 @@ pub const MOST_BYTES: usize = 16384;
 
 // What a preview answers for each job against the jobs before it.
 fn clashes(jobs: &JobTable, heap: Global) -> Result<FixedList<Option<usize>, 64>, AllocError>
-    ensures { IfOk result (λ rows. ClashRows jobs.now (list_of rows)) }
+    ensures { IfOk result (λ rows. ClashRows (jobs_of jobs.now) (list_of rows)) }
 {
     let mut earlier = JobTable::new();
     let mut marks = [0u8; 256];

@@ -75,6 +75,36 @@ fn plain_boards(rt: HostRuntime) -> Result<(), Fail> {
     Ok(())
 }
 
+// Two shifts over any board, held by a type that asks no more than that it is one.
+#[derive(Drop)]
+struct Pile<B: Board> {
+    top: Shift<Shift<B>>,
+}
+
+// A shift over a lent board, held by a type.
+#[derive(Drop)]
+struct Window<'a, B: Board> {
+    part: Shift<&'a mut B>,
+}
+
+#[test]
+fn held_shifts(rt: HostRuntime) -> Result<(), Fail> {
+    let mut cells = TENS;
+    let Ok(middle) = Shift::new(laid(&mut cells)?, 2, 5) else {
+        return Err(Fail::new("no shift"));
+    };
+    let Ok(top) = Shift::new(middle, 1, 3) else {
+        return Err(Fail::new("no shift over a shift"));
+    };
+    let mut pile = Pile { top };
+    pile.top.put(0, 99)?;
+    let Ok(part) = Shift::new(&mut pile.top, 0, 2) else {
+        return Err(Fail::new("no shift over a lent board"));
+    };
+    let window = Window { part };
+    holds(&rt, &window.part, &[99, 14], rt.alloc())
+}
+
 // A shift over a shift, held by value and lent; what lies outside its range stays.
 #[test]
 fn piles(rt: HostRuntime) -> Result<(), Fail> {

@@ -1,4 +1,6 @@
 // What procedures propose, and which proposals are spoilt.
+ghost use Rattle.procedure.specs.Proposals.{AsMany};
+
 use fixed::list::FixedList;
 use job::draft::JobDraft;
 use job::record::JobRecord;
@@ -244,6 +246,25 @@ fn judged(draft: JobDraft, size: usize, heap: Global) -> Result<String, Fail> {
         follow_ups: vec![in heap; draft]?,
     };
     Ok(verdict_text(proposal.judged(size), heap)?)
+}
+
+// What is known of every procedure, whichever is lent.
+fn gives_as_many(procedure: &dyn Procedure)
+    ensures { AsMany (rule procedure.now) }
+{
+    let _ = procedure;
+}
+
+#[test]
+fn lent_procedures(rt: HostRuntime) -> Result<(), Fail> {
+    let job = JobRecord::try_from(&drafted('T', 4, 6, &[7, 8], rt.alloc())?)?;
+    let lent: [&dyn Procedure; 2] = [&Tally, &Spread { wires: &WIRES }];
+    for procedure in lent {
+        gives_as_many(procedure);
+        let proposal = procedure.ask(&job, &[1, 2], rt.alloc())?;
+        assert_eq!(rt; proposal.words.len(), 2);
+    }
+    Ok(())
 }
 
 #[test]

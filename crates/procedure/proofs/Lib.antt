@@ -1,4 +1,5 @@
 pub mod Spoiling
+pub mod Judging
 pub mod Trying
 pub mod Good
 pub mod Rules

@@ -23,11 +23,15 @@ impl Proposal {
     pub fn judged(&self, size: usize) -> Option<FixedList<JobRecord, 4>>
         ensures { Judged size (proposal_of self.now) result }
     {
+        // before any is made a record, however many there are
+        if self.follow_ups.len() > 4 {
+            return None;
+        }
         let mut jobs = FixedList::new(JobRecord::blank());
         for draft in &self.follow_ups {
             let job = follow_up(draft, size)?;
-            // A fifth finds no room, and spoils the proposal.
-            jobs.push(job).ok()?;
+            // there is room for 4
+            let _ = jobs.push(job);
         }
         Some(jobs)
     }

@@ -1,10 +1,18 @@
 ghost use Rattle.std.specs.Prelude.{◌≡◌, ◌≤◌, length};
-ghost use Rattle.ranking.specs.Orders.{below_by, count_below};
+ghost use Rattle.ranking.specs.Orders.{count_below};
 
-// How many elements are below a value.
-pub fn count_below<E: Ord>(all: &[E], one: &E) -> usize
-    ensures value { result ≡ count_below (below_by E.cmp) all.now one.now }
+use crate::order::Order;
+
+// How many elements are below a value. A loop and no chain, which takes twice the time for pairs and standings.
+pub fn count_below<E: Order>(all: &[E], one: &E) -> usize
+    ensures value { result ≡ count_below E.below all.now one.now }
     ensures bound { result ≤ length all.now }
 {
-    all.iter().filter(|x| *x < one).count()
+    let mut count: usize = 0;
+    for x in all {
+        if x.is_below(one) {
+            count += 1;
+        }
+    }
+    count
 }

@@ -1,45 +1,53 @@
-ghost use Rattle.std.specs.Prelude.{◌≡◌, ◌<◌, true, ◌↔◌, nat_eq, nat_lt};
+ghost use Rattle.std.specs.Prelude.{◌≡◌, ℕ, ◌<◌, true, ◌↔◌, nat_eq, nat_lt};
 ghost use Rattle.std.specs.Ordering.{eq_by_cmp};
+ghost use Rattle.job.specs.Plain.{Job};
 ghost use Rattle.job.specs.Records.{job_of};
 ghost use Rattle.ranking.specs.Orders.{AnswerAlike, OneOfThree, CarriesOver, CompareAlike, below_by, pair_below, pair_same};
 ghost use Rattle.ranking.specs.Pedigrees.{pedigree_below, pedigree_same};
 ghost use Rattle.ranking.specs.Standings.{standing_below, standing_same};
 ghost use Rattle.ranking.specs.Laws.{SameEqualCounts, DifferentCounts, LargerCountLarger, DifferentEachOnce, NumberTellsApart, GenerationEachOnce, SheetByNumber, BelowByUrgency, UrgencyThenPoints, BelowByParent, ParentThenPlace, SameIfEqual};
 
+use crate::order::Order;
 use crate::pedigree::Pedigree;
 use crate::precedence::{Precedence, SheetOrder, UrgencyOrder, standing};
 use crate::standing::Standing;
 use job::record::JobRecord;
 
-// Every order is total: of two values one is below the other or they are the same, below carries over, and
-// values that are the same compare alike with every third.
+// Every comparison of the library's `Ord` is total: of two values one is below the other or they are the same, below
+// carries over, and values that are the same compare alike with every third. So what follows of an `Order` holds of it too.
 pub fn total_order<E: Ord>()
     ensures one { OneOfThree (below_by E.cmp) (eq_by_cmp E.cmp) }
     ensures carries { CarriesOver (below_by E.cmp) }
     ensures alike { CompareAlike (below_by E.cmp) (eq_by_cmp E.cmp) }
-{}
-
-// Of elements of a list the larger has the larger count; those that are the same have equal counts, and only those.
-pub fn larger_count_larger<E: Ord>()
     ensures same { SameEqualCounts (below_by E.cmp) (eq_by_cmp E.cmp) }
     ensures different { DifferentCounts (below_by E.cmp) (eq_by_cmp E.cmp) }
     ensures larger { LargerCountLarger (below_by E.cmp) }
+    ensures each_once { DifferentEachOnce (below_by E.cmp) (eq_by_cmp E.cmp) }
+    ensures apart { NumberTellsApart (eq_by_cmp E.cmp) }
+    ensures generation { (keyed : Job → ℕ → E) → GenerationEachOnce (below_by E.cmp) (eq_by_cmp E.cmp) keyed }
+{}
+
+// Of elements of a list the larger has the larger count; those that are the same have equal counts, and only those.
+pub fn larger_count_larger<E: Order>()
+    ensures same { SameEqualCounts E.below E.same }
+    ensures different { DifferentCounts E.below E.same }
+    ensures larger { LargerCountLarger E.below }
 {}
 
 // The counts of n elements, no two of them the same, are the numbers from 0 to n - 1, each once.
-pub fn counts_each_once<E: Ord>()
-    ensures { DifferentEachOnce (below_by E.cmp) (eq_by_cmp E.cmp) }
+pub fn counts_each_once<E: Order>()
+    ensures { DifferentEachOnce E.below E.same }
 {}
 
 // The number tells two standings apart, so the counts of the standings of n jobs are the numbers from 0 to n - 1, each once.
 pub fn standings_each_once<P: Precedence>(precedence: &P)
-    ensures apart { NumberTellsApart (eq_by_cmp P.Key.cmp) }
-    ensures once { GenerationEachOnce (below_by P.Key.cmp) (eq_by_cmp P.Key.cmp) (P.keyed precedence.now) }
+    ensures apart { NumberTellsApart P.Key.Order.same }
+    ensures once { GenerationEachOnce P.Key.Order.below P.Key.Order.same (P.keyed precedence.now) }
 {}
 
-// A derived comparison, or the library's, has no code here that a contract could stand on. So each function from here on compares by the type's
-// own comparison, by which `count_below` counts too, and its clause `order` or `equality` says that this comparison
-// answers as the subject's test does, whatever the values.
+// A derived comparison, or the library's, has no code here that a contract could stand on. So each function from here on
+// compares by the type's own comparison, and its clause `order` or `equality` says that this comparison answers as the
+// subject's test does, by which `count_below` counts, whatever the values.
 
 // Whether one pair is below another: by the first parts, then by the second.
 pub fn pair_below<A: Ord, B: Ord>(p: &(A, B), q: &(A, B)) -> bool

@@ -4,13 +4,14 @@ ghost use Rattle.job.specs.Records.{job_of};
 ghost use Rattle.ranking.specs.Keys.{sheet_key, urgency_key};
 ghost use Rattle.ranking.specs.Standings.{standing_of};
 
+use crate::order::Order;
 use crate::standing::Standing;
 use job::record::JobRecord;
 
-// A key for each job, from its record and its number alone, in the keys' own order.
+// A key for each job, from its record and its number alone, in an order of keys.
 // A record lies in its table and its number is its place there: a struct of both would be made only for a call.
 pub trait Precedence {
-    type Key: Ord + Copy;
+    type Key: Order + Copy;
 
     ghost keyed: { Self → Job → ℕ → Self.Key };
 

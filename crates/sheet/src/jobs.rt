@@ -6,6 +6,7 @@ ghost use Rattle.spelling.specs.Texts.{all_of, cut};
 ghost use Rattle.fields.specs.Order.{columns_of};
 ghost use Rattle.sheet.specs.Tables.{Takes};
 ghost use Rattle.sheet.specs.Values.{values_of};
+ghost use Rattle.job.specs.Records.{jobs_of};
 
 use crate::values::Values;
 use fields::order::ColumnOrder;
@@ -36,7 +37,7 @@ pub(crate) fn take_job(
     line: &[u8],
     jobs: &mut JobTable,
 ) -> Result<(), LineFault>
-    ensures { Takes (job_line (columns_of order.now) jobs.old line.now) jobs.old result jobs.new }
+    ensures { Takes (job_line (columns_of order.now) (jobs_of jobs.old) line.now) (jobs_of jobs.old) result (jobs_of jobs.new) }
 {
     if jobs.is_full() {
         return Err(LineFault::TooManyJobs);

@@ -8,6 +8,8 @@ ghost use Rattle.spelling.specs.Texts.{cut, empty};
 ghost use Rattle.fields.specs.Order.{columns_of};
 ghost use Rattle.fields.specs.Reading.{rest_of};
 ghost use Rattle.sheet.specs.Tables.{Leaves, Follows, Read, Spells, Faults};
+ghost use Rattle.job.specs.Records.{jobs_of};
+ghost use Rattle.wiring.specs.Wiring.{wires_of};
 
 use crate::jobs::take_job;
 use crate::wires::take_wire;
@@ -37,7 +39,7 @@ fn wire_lines(
     jobs: &JobTable,
     wires: &mut WireTable,
 ) -> Result<(), SheetFault>
-    ensures { Leaves (wires_from jobs.now wires.old (cut 10 (rest_of reader.old))) result jobs.now wires.new }
+    ensures { Leaves (wires_from (jobs_of jobs.now) (wires_of wires.old) (cut 10 (rest_of reader.old))) result (jobs_of jobs.now) (wires_of wires.new) }
 {
     // above the wires stand the names, the jobs, an empty line and the wires' names; lines count from 1
     let above = 4 + jobs.len();
@@ -55,8 +57,8 @@ fn wire_part(
     jobs: &JobTable,
     wires: &mut WireTable,
 ) -> Result<(), SheetFault>
-    requires { wires.old ≡ [] }
-    ensures { Leaves (wires_part jobs.now (cut 10 (rest_of reader.old))) result jobs.now wires.new }
+    requires { wires_of wires.old ≡ [] }
+    ensures { Leaves (wires_part (jobs_of jobs.now) (cut 10 (rest_of reader.old))) result (jobs_of jobs.now) (wires_of wires.new) }
 {
     if reader.line() != Some(b"from to delay".as_slice()) {
         return Err(SheetFault::AtLine(3 + jobs.len(), LineFault::WireNames));
@@ -70,7 +72,7 @@ fn job_lines(
     order: &ColumnOrder,
     jobs: &mut JobTable,
 ) -> Result<bool, SheetFault>
-    ensures { Follows (jobs_from (columns_of order.now) jobs.old (cut 10 (rest_of reader.old))) result jobs.new (cut 10 (rest_of reader.new)) }
+    ensures { Follows (jobs_from (columns_of order.now) (jobs_of jobs.old) (cut 10 (rest_of reader.old))) result (jobs_of jobs.new) (cut 10 (rest_of reader.new)) }
 {
     while let Some(line) = reader.line() {
         if line.is_empty() {
@@ -85,7 +87,7 @@ fn job_lines(
 
 // The lines of a sheet, into the tables, whatever they held.
 fn read_lines(sheet: &[u8], jobs: &mut JobTable, wires: &mut WireTable) -> Result<(), SheetFault>
-    ensures { Leaves (read_of sheet.now) result jobs.new wires.new }
+    ensures { Leaves (read_of sheet.now) result (jobs_of jobs.new) (wires_of wires.new) }
 {
     jobs.clear();
     wires.clear();
@@ -106,8 +108,8 @@ fn read_lines(sheet: &[u8], jobs: &mut JobTable, wires: &mut WireTable) -> Resul
 // Reads a sheet into the tables, whatever they held. It is accepted exactly if it spells tables within the limits;
 // a refused one leaves both tables empty, and the answer is its first fault.
 pub fn read(sheet: &[u8], jobs: &mut JobTable, wires: &mut WireTable) -> Result<(), SheetFault>
-    ensures answer { Read sheet.now result jobs.new wires.new }
-    ensures spelled { Spells sheet.now result jobs.new wires.new }
+    ensures answer { Read sheet.now result (jobs_of jobs.new) (wires_of wires.new) }
+    ensures spelled { Spells sheet.now result (jobs_of jobs.new) (wires_of wires.new) }
     ensures first { Faults sheet.now result }
 {
     if let Err(fault) = read_lines(sheet, jobs, wires) {

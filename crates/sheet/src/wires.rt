@@ -2,6 +2,7 @@ ghost use Rattle.std.specs.Prelude.{◌≡◌, length};
 ghost use Rattle.spelling.specs.Lines.{wire_fields, wire_line};
 ghost use Rattle.spelling.specs.Texts.{all_of, cut};
 ghost use Rattle.sheet.specs.Tables.{Takes};
+ghost use Rattle.wiring.specs.Wiring.{wires_of};
 
 use fields::place::at;
 use fields::reader::Reader;
@@ -25,7 +26,7 @@ fn three_fields(line: &[u8]) -> Result<Wire, LineFault>
 
 // Takes the wire of a line into the table.
 pub(crate) fn take_wire(line: &[u8], wires: &mut WireTable) -> Result<(), LineFault>
-    ensures { Takes (wire_line wires.old line.now) wires.old result wires.new }
+    ensures { Takes (wire_line (wires_of wires.old) line.now) (wires_of wires.old) result (wires_of wires.new) }
 {
     if wires.is_full() {
         return Err(LineFault::TooManyWires);

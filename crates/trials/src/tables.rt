@@ -1,4 +1,10 @@
-// Reading into tables that hold another sheet already.
+// Reading into tables that hold another sheet already, and what is known of every table.
+ghost use Rattle.std.specs.Prelude.{◌≡◌, ◌≤◌, length, true, nat_le};
+ghost use Rattle.std.specs.List.{list_all};
+ghost use Rattle.job.specs.Records.{jobs_of};
+ghost use Rattle.wiring.specs.Wires.{leads_on, tally};
+ghost use Rattle.wiring.specs.Wiring.{wires_of};
+
 use crate::support::{JOBS, held, joined};
 use job::refusal::Refusal;
 use job::table::JobTable;
@@ -60,6 +66,31 @@ fn read_over(
             Ok(format!(in heap; "{refusal}\n{after}")?)
         }
     }
+}
+
+// What the types of the tables say, with no call.
+fn is_table(jobs: &JobTable)
+    ensures { length (jobs_of jobs.now) ≤ 64 }
+{
+    let _ = jobs;
+}
+
+fn are_wires(wires: &WireTable)
+    ensures few { length (wires_of wires.now) ≤ 256 }
+    ensures onward { list_all leads_on (wires_of wires.now) ≡ true }
+    ensures four { list_all (λ n. nat_le n 4) (tally (wires_of wires.now)) ≡ true }
+{
+    let _ = wires;
+}
+
+#[test]
+fn new_tables(rt: HostRuntime) -> Result<(), Fail> {
+    let jobs = JobTable::new();
+    let wires = WireTable::new();
+    is_table(&jobs);
+    are_wires(&wires);
+    assert_eq!(rt; (jobs.len(), wires.len()), (0, 0));
+    Ok(())
 }
 
 #[test]

@@ -1,9 +1,14 @@
--- What is true of a wire table, and what a push leaves in it.
+-- What a wire table holds and what is true of it, and what a push leaves in it.
 use Rattle.std.specs.Prelude.{◌≡◌, ℕ, true, List, [], ◌∷◌, ◌++◌, Ok, Err, Result, MatchResult, nat_le}
 use Rattle.std.specs.List.{list_all}
 use Rattle.wiring.specs.declared.fault.WireFault.{WireFault}
 use Rattle.wiring.specs.declared.wire.Wire.{Wire}
+use Rattle.wiring.specs.declared.table.WireTable.{WireTable}
+use Rattle.fixed.specs.Fixed.{list_of}
 use Rattle.wiring.specs.Wires.{leads_on, tally, wired}
+
+abbrev pub wires_of : WireTable → List Wire
+wires_of t = list_of t.wires
 
 -- wires and the counts of those that lead from each point
 pub record Tallied (ws : List Wire) (counts : List ℕ) : Type 0 where

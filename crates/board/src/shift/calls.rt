@@ -10,7 +10,7 @@ use crate::shift::Shift;
 impl<B: Board> Shift<B> {
     // A shift of at least one point, all of them on the board below; another one hands the board back.
     pub fn new(below: B, start: usize, size: usize) -> Result<Shift<B>, (B, BoardFault)>
-        ensures { Shifted below start size result }
+        ensures { Shifted B.words below start size result }
     {
         let whole = below.size();
         let fits = start.checked_add(size).is_some_and(|end| end <= whole);
@@ -40,10 +40,10 @@ impl<B: Board> Shift<B> {
 }
 
 impl<B: Board> Board for Shift<B> {
-    ghost words = { shown };
+    ghost words = { shown B.Board.words };
 
     fn size(&self) -> usize {
-        self.size
+        self.size.min(self.below.size().saturating_sub(self.start))
     }
 
     fn word(&self, point: usize) -> Result<u32, BoardFault> {
@@ -53,7 +53,7 @@ impl<B: Board> Board for Shift<B> {
 
     // Of the board below one word is set too, and no other, outside the shift's range as well.
     fn put(&mut self, point: usize, word: u32) -> Result<(), BoardFault>
-        ensures here { Put (shown self.old) point word result (shown self.new) }
+        ensures here { Put (shown B.words self.old) point word result (shown B.words self.new) }
         ensures below { KeptBelow (B.words self.old.below) self.old.start point word result (B.words self.new.below) }
         ensures range { (self.new.start ≡ self.old.start) × (self.new.size ≡ self.old.size) }
     {

@@ -1,7 +1,7 @@
 ghost use Rattle.std.specs.Prelude.{◌≡◌, ◌≤◌, true, [], length, nat_le};
 ghost use Rattle.std.specs.List.{list_all};
 ghost use Rattle.wiring.specs.Wires.{leads_on, tally};
-ghost use Rattle.wiring.specs.Wiring.{Strung};
+ghost use Rattle.wiring.specs.Wiring.{wires_of, Strung};
 
 use crate::fault::WireFault;
 use crate::table::WireTable;
@@ -9,9 +9,8 @@ use crate::wire::Wire;
 use fixed::list::FixedList;
 
 impl WireTable {
-    #[tactic(auto, using(crate::proofs::Counts::none_tallied))]
     pub fn new() -> WireTable
-        ensures { result ≡ [] }
+        ensures { wires_of result ≡ [] }
     {
         WireTable {
             wires: FixedList::new(Wire::default()),
@@ -20,20 +19,20 @@ impl WireTable {
     }
 
     pub fn len(&self) -> usize
-        ensures value { result ≡ length self.now }
+        ensures value { result ≡ length (wires_of self.now) }
         ensures bound { result ≤ 256 }
     {
         self.wires.len()
     }
 
     pub fn is_full(&self) -> bool
-        ensures { result ≡ nat_le 256 (length self.now) }
+        ensures { result ≡ nat_le 256 (length (wires_of self.now)) }
     {
         self.wires.is_full()
     }
 
     pub fn wires(&self) -> &[Wire]
-        ensures value { result.now ≡ self.now }
+        ensures value { result.now ≡ wires_of self.now }
         ensures bound { length result.now ≤ 256 }
         ensures onward { list_all leads_on result.now ≡ true }
         ensures four { list_all (λ n. nat_le n 4) (tally result.now) ≡ true }
@@ -41,9 +40,8 @@ impl WireTable {
         self.wires.as_slice()
     }
 
-    #[tactic(auto, using(crate::proofs::Counts::none_tallied))]
     pub fn clear(&mut self)
-        ensures { self.new ≡ [] }
+        ensures { wires_of self.new ≡ [] }
     {
         self.wires.clear();
         self.leaving = [0; 256];
@@ -51,7 +49,7 @@ impl WireTable {
 
     // One wire more, behind the others; a refused one leaves the table as it is.
     pub fn push(&mut self, wire: Wire) -> Result<(), WireFault>
-        ensures { Strung self.old wire result self.new }
+        ensures { Strung (wires_of self.old) wire result (wires_of self.new) }
     {
         if self.wires.is_full() {
             return Err(WireFault::TableFull);
